@@ -1,0 +1,198 @@
+-- One step of each scan, and bounds.
+use mathlib.Core.Path.{_≡_, refl, sym, ap, subst, _∙_}
+use mathlib.Core.List.{List, [], _∷_}
+use mathlib.Core.Bool.{Bool, true, false, not}
+use mathlib.Core.Logic.{_⊎_, inl, inr, ⊎-elim}
+use Prim.Native.Nat.{ℕ, zero, suc, _+_, _-_, _≤_, _<_}
+use native.Mathlib.Omega.{arith}
+use native.Mathlib.Nat.{le-refl, add-zero}
+use native.Mathlib.Decide.{decLe}
+use lib.ListN.{length, getD}
+use lib.Dec.{ltb, leb, eqb}
+use borrow.Author.Tests.{eq-eqb, ne-eqb, lt-ltb, le-ltb, le-leb, lt-leb}
+use Rattle.scan.specs.Scan.{pick, digitOf, isBlank, blankAt, blankBefore, span, spanTo, back, backTo, skip, trimStart, skipBack, trimEnd, opened, closing, closingTo}
+
+pub more : (i e : ℕ) → i < e → e - i ≡ suc (e - (i + 1))
+more i e h = omega arith
+
+pub none : (i e : ℕ) → e ≤ i → e - i ≡ 0
+none i e h = omega arith
+
+pub le-or-lt : (a b : ℕ) → (a ≤ b) ⊎ (b < a)
+le-or-lt a b = elim (decLe a b) [ yes h ↦ inl h | no h ↦ inr (omega arith) ]
+
+pub zero-or : (n : ℕ) → (n ≡ 0) ⊎ (¬ (n ≡ 0))
+zero-or zero = inl refl
+zero-or (suc n) = inr (λ z. omega arith)
+
+-- a fact of both branches
+pub picked : {A : Type 0} (P : A → Type 0) (b : Bool) (x y : A) → P x → P y → P (pick b x y)
+picked P true x y p q = p
+picked P false x y p q = q
+
+module _ (p : ℕ → Bool) (s : List ℕ) (i e : ℕ) where
+  pub span-end : e ≤ i → spanTo p s i e ≡ i
+  unfolding span
+  span-end h = rw (none i e h)
+
+  pub span-stop : i < e → p (getD s i 0) ≡ false → spanTo p s i e ≡ i
+  unfolding span
+  span-stop h q = rw (more i e h, q)
+
+  pub span-go : i < e → p (getD s i 0) ≡ true → spanTo p s i e ≡ spanTo p s (i + 1) e
+  unfolding span
+  span-go h q = rw (more i e h, q)
+
+  pub back-end : e ≤ i → backTo p s i e ≡ i
+  unfolding back
+  back-end h = rw (none i e h)
+
+  pub back-stop : i < e → p (getD s (e - 1) 0) ≡ false → backTo p s i e ≡ e
+  unfolding back
+  back-stop h q =
+      let a : i + (e - (i + 1)) ≡ e - 1 = omega arith in
+      let b : e - 1 + 1 ≡ e = omega arith in
+      rw (more i e h, a, q, b)
+
+  pub back-go : i < e → p (getD s (e - 1) 0) ≡ true → backTo p s i e ≡ backTo p s i (e - 1)
+  unfolding back
+  back-go h q =
+      let a : i + (e - (i + 1)) ≡ e - 1 = omega arith in
+      let b : e - (i + 1) ≡ e - 1 - i = omega arith in
+      rw (more i e h, a, q, b)
+
+pub span-low : (p : ℕ → Bool) (s : List ℕ) (n i : ℕ) → i ≤ span p s n i
+unfolding span
+span-low p s zero i = le-refl i
+span-low p s (suc n) i =
+    let h : i + 1 ≤ span p s n (i + 1) = span-low p s n (i + 1) in
+    picked (λ j. i ≤ j) (p (getD s i 0)) (span p s n (i + 1)) i (omega arith) (le-refl i)
+
+pub span-high : (p : ℕ → Bool) (s : List ℕ) (n i : ℕ) → span p s n i ≤ i + n
+unfolding span
+span-high p s zero i = omega arith
+span-high p s (suc n) i =
+    let h : span p s n (i + 1) ≤ i + 1 + n = span-high p s n (i + 1) in
+    picked (λ j. j ≤ i + suc n) (p (getD s i 0)) (span p s n (i + 1)) i (omega arith) (omega arith)
+
+module _ (s : List ℕ) (i e k : ℕ) where
+  pub closing-end : e ≤ i → closingTo s i e k ≡ i
+  unfolding closing
+  closing-end h = rw (none i e h)
+
+  pub closing-stop : i < e → opened (getD s i 0) k ≡ 0 → closingTo s i e k ≡ i
+  unfolding closing
+  closing-stop h q = rw (more i e h, eq-eqb (opened (getD s i 0) k) 0 q)
+
+  pub closing-go : (j : ℕ) → i < e → opened (getD s i 0) k ≡ j → ¬ (j ≡ 0) → closingTo s i e k ≡ closingTo s (i + 1) e j
+  unfolding closing
+  closing-go j h q z = rw (more i e h, q, ne-eqb j 0 z)
+
+pub closing-low : (s : List ℕ) (n i k : ℕ) → i ≤ closing s n i k
+unfolding closing
+closing-low s zero i k = le-refl i
+closing-low s (suc n) i k =
+    let h : i + 1 ≤ closing s n (i + 1) (opened (getD s i 0) k) = closing-low s n (i + 1) (opened (getD s i 0) k) in
+    picked (λ j. i ≤ j) (eqb (opened (getD s i 0) k) 0) i (closing s n (i + 1) (opened (getD s i 0) k)) (le-refl i) (omega arith)
+
+-- a blank lies inside: all that trimming needs to know of blanks
+pub blank-at-fits : (s : List ℕ) (i e : ℕ) → blankAt s i e ≤ e - i
+unfolding blankAt
+blank-at-fits s i e =
+    ⊎-elim
+    (λ (h : e ≤ i). rw (le-ltb i e h) (omega arith))
+    (λ (h : i < e). rw (lt-ltb i e h) (picked (λ j. j ≤ e - i) (isBlank (getD s i 0)) 1 0 (omega arith) (omega arith)))
+    (le-or-lt e i)
+
+pub blank-before-fits : (s : List ℕ) (i e : ℕ) → blankBefore s i e ≤ e - i
+unfolding blankBefore
+blank-before-fits s i e =
+    ⊎-elim
+    (λ (h : e ≤ i). rw (le-ltb i e h) (omega arith))
+    (λ (h : i < e). rw (lt-ltb i e h) (picked (λ j. j ≤ e - i) (isBlank (getD s (e - 1) 0)) 1 0 (omega arith) (omega arith)))
+    (le-or-lt e i)
+
+-- more fuel than there are bytes left changes nothing
+skip-fuel : (s : List ℕ) (e n m i : ℕ) → e - i ≤ n → e - i ≤ m → skip s e n i ≡ skip s e m i
+unfolding skip
+skip-fuel s e zero zero i a b = refl
+skip-fuel s e zero (suc m) i a b =
+    let z : blankAt s i e ≡ 0 = omega (arith, blank-at-fits s i e) in
+    rw (eq-eqb (blankAt s i e) 0 z)
+skip-fuel s e (suc n) zero i a b =
+    let z : blankAt s i e ≡ 0 = omega (arith, blank-at-fits s i e) in
+    rw (eq-eqb (blankAt s i e) 0 z)
+skip-fuel s e (suc n) (suc m) i a b =
+    ⊎-elim
+    (λ (z : blankAt s i e ≡ 0). rw (eq-eqb (blankAt s i e) 0 z))
+    (λ (z : ¬ (blankAt s i e ≡ 0)). rw (ne-eqb (blankAt s i e) 0 z) (skip-fuel s e n m (i + blankAt s i e) (omega arith) (omega arith)))
+    (zero-or (blankAt s i e))
+
+skip-back-fuel : (s : List ℕ) (i n m e : ℕ) → e - i ≤ n → e - i ≤ m → skipBack s i n e ≡ skipBack s i m e
+unfolding skipBack
+skip-back-fuel s i zero zero e a b = refl
+skip-back-fuel s i zero (suc m) e a b =
+    let z : blankBefore s i e ≡ 0 = omega (arith, blank-before-fits s i e) in
+    rw (eq-eqb (blankBefore s i e) 0 z)
+skip-back-fuel s i (suc n) zero e a b =
+    let z : blankBefore s i e ≡ 0 = omega (arith, blank-before-fits s i e) in
+    rw (eq-eqb (blankBefore s i e) 0 z)
+skip-back-fuel s i (suc n) (suc m) e a b =
+    ⊎-elim
+    (λ (z : blankBefore s i e ≡ 0). rw (eq-eqb (blankBefore s i e) 0 z))
+    (λ (z : ¬ (blankBefore s i e ≡ 0)). rw (ne-eqb (blankBefore s i e) 0 z) (skip-back-fuel s i n m (e - blankBefore s i e) (omega arith) (omega arith)))
+    (zero-or (blankBefore s i e))
+
+module _ (s : List ℕ) (i e w : ℕ) where
+  pub trim-start-stop : w ≡ blankAt s i e → w ≡ 0 → trimStart s i e ≡ i
+  unfolding skip
+  trim-start-stop q z = go (e - i)
+    where
+      go : (n : ℕ) → skip s e n i ≡ i
+      go zero = refl
+      go (suc n) = rw (← q, eq-eqb w 0 z)
+
+  pub trim-start-go : w ≡ blankAt s i e → ¬ (w ≡ 0) → trimStart s i e ≡ trimStart s (i + w) e
+  unfolding skip
+  trim-start-go q z =
+      let f : w ≤ e - i = rw q (blank-at-fits s i e) in
+      let m : e - i ≡ suc (e - (i + 1)) = omega arith in
+      rw (m, ← q, ne-eqb w 0 z) (skip-fuel s e (e - (i + 1)) (e - (i + w)) (i + w) (omega arith) (omega arith))
+
+  pub trim-end-stop : w ≡ blankBefore s i e → w ≡ 0 → trimEnd s i e ≡ e
+  unfolding skipBack
+  trim-end-stop q z = go (e - i)
+    where
+      go : (n : ℕ) → skipBack s i n e ≡ e
+      go zero = refl
+      go (suc n) = rw (← q, eq-eqb w 0 z)
+
+  pub trim-end-go : w ≡ blankBefore s i e → ¬ (w ≡ 0) → trimEnd s i e ≡ trimEnd s i (e - w)
+  unfolding skipBack
+  trim-end-go q z =
+      let f : w ≤ e - i = rw q (blank-before-fits s i e) in
+      let m : e - i ≡ suc (e - (i + 1)) = omega arith in
+      rw (m, ← q, ne-eqb w 0 z) (skip-back-fuel s i (e - (i + 1)) (e - w - i) (e - w) (omega arith) (omega arith))
+
+-- a digit's value, range by range
+module _ (b : ℕ) where
+  pub digit-below : b < 48 → 16 ≡ digitOf b
+  digit-below h = simp (lt-leb 48 b h, lt-leb 65 b (omega arith), lt-leb 97 b (omega arith))
+
+  pub digit-decimal : 48 ≤ b → b ≤ 57 → b - 48 ≡ digitOf b
+  digit-decimal h k = simp (le-leb 48 b h, le-leb b 57 k)
+
+  pub digit-between : 57 < b → b < 65 → 16 ≡ digitOf b
+  digit-between h k = simp (lt-leb b 57 h, le-leb 48 b (omega arith), lt-leb 65 b k, lt-leb 97 b (omega arith))
+
+  pub digit-upper : 65 ≤ b → b ≤ 70 → b - 55 ≡ digitOf b
+  digit-upper h k = simp (le-leb 48 b (omega arith), lt-leb b 57 (omega arith), le-leb 65 b h, le-leb b 70 k)
+
+  pub digit-middle : 70 < b → b < 97 → 16 ≡ digitOf b
+  digit-middle h k = simp (le-leb 48 b (omega arith), lt-leb b 57 (omega arith), le-leb 65 b (omega arith), lt-leb b 70 h, lt-leb 97 b k)
+
+  pub digit-lower : 97 ≤ b → b ≤ 102 → b - 87 ≡ digitOf b
+  digit-lower h k = simp (le-leb 48 b (omega arith), lt-leb b 57 (omega arith), le-leb 65 b (omega arith), lt-leb b 70 (omega arith), le-leb 97 b h, le-leb b 102 k)
+
+  pub digit-above : 102 < b → 16 ≡ digitOf b
+  digit-above h = simp (le-leb 48 b (omega arith), lt-leb b 57 (omega arith), le-leb 65 b (omega arith), lt-leb b 70 (omega arith), le-leb 97 b (omega arith), lt-leb b 102 h)

@@ -1,0 +1,30 @@
+use Rattle.scan.specs.Scan.{blankAt}
+use borrow.Author.Tests.{le-leb, lt-leb, eq-eqb, ne-eqb, lt-ltb, le-ltb, not-true, not-false}
+use borrow.Author.Needs.{needs}
+use Rattle.scan.proofs.blank_at.Statement.{statement}
+use Rattle.scan.proofs.blank_at.Tie as tie
+use Rattle.scan.proofs.blank_at.Reads as reads
+use Rattle.scan.proofs.blank_at.Lts as lts
+use Rattle.scan.proofs.is_blank.Reads as is-blank-reads
+
+shared-slice-read-is-blank : tie.Need-shared-slice-read-is-blank
+shared-slice-read-is-blank c = search needs
+
+is-blank-requires : tie.Need-is-blank-requires
+is-blank-requires c κs = search needs
+
+returns : tie.Need-returns
+unfolding blankAt
+returns c = (rw (lt-ltb _ _ (c .before .before .before .if1 .taken), ← c .before .is-blank .ensures, c .if2 .taken), search needs)
+
+returns-2 : tie.Need-returns-2
+unfolding blankAt
+returns-2 c = (rw (lt-ltb _ _ (c .before .before .before .if1 .taken), ← c .before .is-blank .ensures, c .if2 .left), search needs)
+
+returns-3 : tie.Need-returns-3
+unfolding blankAt
+returns-3 c = (rw (le-ltb _ _ (c .if1 .left)), search needs)
+
+pub blank-at-spec : {M : Type 1} → statement M
+blank-at-spec =
+    tie.close (tie.spec shared-slice-read-is-blank is-blank-requires returns returns-2 returns-3)

@@ -1,0 +1,77 @@
+use borrow.Author.Tests.{le-leb, lt-leb, eq-eqb, ne-eqb, lt-ltb, le-ltb, not-true, not-false}
+use borrow.Author.Needs.{needs}
+use Rattle.scan.proofs.has.Statement.{statement}
+use Rattle.scan.proofs.has.Tie as tie
+use Rattle.scan.proofs.has.Reads as reads
+use Rattle.scan.proofs.has.Lts as lts
+use Rattle.scan.proofs.digit_of.Reads as digit-of-reads
+use Rattle.scan.proofs.is_letter.Reads as is-letter-reads
+
+enum-known-class : tie.Need-enum-known-class
+enum-known-class c = search needs
+
+digit-of-requires : tie.Need-digit-of-requires
+digit-of-requires c κs = search needs
+
+enum-told : tie.Need-enum-told
+enum-told c = search needs
+
+is-letter-requires : tie.Need-is-letter-requires
+is-letter-requires c κs = search needs
+
+enum-known-class-2 : tie.Need-enum-known-class-2
+enum-known-class-2 c = search needs
+
+enum-known-class-3 : tie.Need-enum-known-class-3
+enum-known-class-3 c = search needs
+
+enum-known-class-4 : tie.Need-enum-known-class-4
+enum-known-class-4 c = search needs
+
+enum-known-class-5 : tie.Need-enum-known-class-5
+enum-known-class-5 c = search needs
+
+returns : tie.Need-returns
+returns c = rw (c .before .before .class .given .1, c .digit-of .ensures)
+
+returns-2 : tie.Need-returns-2
+returns-2 c = rw (c .before .enum-told .given .1) (c .is-letter .ensures)
+
+returns-3 : tie.Need-returns-3
+returns-3 c = rw (c .before .class2 .given .1)
+
+returns-4 : tie.Need-returns-4
+returns-4 c = rw (c .before .class3 .given .1)
+
+returns-5 : tie.Need-returns-5
+returns-5 c = rw (c .before .before .class4 .given .1, eq-eqb _ _ (c .if1 .taken))
+
+returns-6 : tie.Need-returns-6
+returns-6 c = rw (c .before .before .class4 .given .1, ne-eqb _ _ (c .if1 .left))
+
+returns-7 : tie.Need-returns-7
+returns-7 c = rw (c .before .before .class5 .given .1, eq-eqb _ _ (c .if2 .taken))
+
+returns-8 : tie.Need-returns-8
+returns-8 c = rw (c .before .before .class5 .given .1, ne-eqb _ _ (c .if2 .left))
+
+pub has-spec : {M : Type 1} → statement M
+has-spec =
+    tie.close
+    (tie.spec
+    enum-known-class
+    digit-of-requires
+    enum-told
+    is-letter-requires
+    enum-known-class-2
+    enum-known-class-3
+    enum-known-class-4
+    enum-known-class-5
+    returns
+    returns-2
+    returns-3
+    returns-4
+    returns-5
+    returns-6
+    returns-7
+    returns-8)

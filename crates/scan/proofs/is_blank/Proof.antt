@@ -1,0 +1,17 @@
+use borrow.Author.Tests.{le-leb, lt-leb, eq-eqb, ne-eqb, lt-ltb, le-ltb, not-true, not-false}
+use Rattle.scan.proofs.is_blank.Statement.{statement}
+use Rattle.scan.proofs.is_blank.Tie as tie
+use Rattle.scan.proofs.is_blank.Reads as reads
+use Rattle.scan.proofs.is_blank.Lts as lts
+
+returns : tie.Need-returns
+returns c = simp (eq-eqb _ _ (c .if1 .taken))
+
+returns-2 : tie.Need-returns-2
+returns-2 c = simp (ne-eqb _ _ (c .before .if1 .left), le-leb _ _ (c .if2 .taken))
+
+returns-3 : tie.Need-returns-3
+returns-3 c = simp (ne-eqb _ _ (c .before .if1 .left), lt-leb _ _ (c .if2 .left))
+
+pub is-blank-spec : {M : Type 1} → statement M
+is-blank-spec = tie.close (tie.spec returns returns-2 returns-3)

@@ -1,0 +1,65 @@
+use Rattle.scan.proofs.Laws.{span-end, span-stop, span-go, back-end, back-stop, back-go, closing-end, closing-stop, closing-go, trim-start-stop, trim-start-go, trim-end-stop, trim-end-go}
+use Rattle.scan.specs.Scan.{inClass, spanTo, backTo, closingTo, trimStart, trimEnd}
+use Prim.Native.Nat.{ℕ, _+_, _-_, _≤_, _<_}
+use mathlib.Core.Path.{_≡_, refl, sym, _∙_, ap}
+use native.Mathlib.Omega.{arith}
+use borrow.Author.Tests.{le-leb, lt-leb, eq-eqb, ne-eqb, lt-ltb, le-ltb, not-true, not-false}
+use borrow.Author.Needs.{needs}
+use Rattle.scan.proofs.span_back.Statement.{statement}
+use Rattle.scan.proofs.span_back.Tie as tie
+use Rattle.scan.proofs.span_back.Reads as reads
+use Rattle.scan.proofs.span_back.Lts as lts
+use Rattle.scan.proofs.has.Reads as has-reads
+
+abbrev Inv-loop : tie.InvT-loop
+Inv-loop text class from to e₀ e = (from ≤ e) × (e ≤ to) × (backTo (inClass «class») text from to ≡ backTo (inClass «class») text from e)
+
+abbrev μ-loop : tie.MeasureT-loop
+μ-loop text class from to e₀ e = e - from
+
+loop-holds : tie.Need-loop-holds Inv-loop μ-loop
+loop-holds c = search needs
+
+sub-has : tie.Need-sub-has Inv-loop μ-loop
+sub-has c = search needs
+
+shared-slice-read-has : tie.Need-shared-slice-read-has Inv-loop μ-loop
+shared-slice-read-has c = search needs
+
+has-requires : tie.Need-has-requires Inv-loop μ-loop
+has-requires c κs = search needs
+
+returns : tie.Need-returns Inv-loop μ-loop
+returns c =
+    let l = c .before .before .before .before in
+    record { is = sym (l .loop .inv .2 ∙ back-stop _ _ _ _ (search needs) (sym (c .before .has .ensures) ∙ not-true _ (c .if1 .taken))); low = search needs; high = search needs }
+
+sub-e : tie.Need-sub-e Inv-loop μ-loop
+sub-e c = search needs
+
+loop-less : tie.Need-loop-less Inv-loop μ-loop
+loop-less c = search needs
+
+loop-again : tie.Need-loop-again Inv-loop μ-loop
+loop-again c =
+    let l = c .before .before .before .before in
+    (search needs, search needs, l .loop .inv .2 ∙ back-go _ _ _ _ (search needs) (sym (c .before .has .ensures) ∙ not-false _ (c .if1 .left)))
+
+returns-2 : tie.Need-returns-2 Inv-loop μ-loop
+returns-2 c = record { is = sym (c .before .loop .inv .2 ∙ back-end _ _ _ _ (search needs) ∙ omega arith); low = search needs; high = search needs }
+
+pub span-back-spec : {M : Type 1} → statement M
+span-back-spec =
+    tie.close
+    (tie.spec
+    Inv-loop
+    μ-loop
+    loop-holds
+    sub-has
+    shared-slice-read-has
+    has-requires
+    returns
+    sub-e
+    loop-less
+    loop-again
+    returns-2)

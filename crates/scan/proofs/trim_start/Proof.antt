@@ -1,0 +1,41 @@
+use Rattle.scan.proofs.Laws.{span-end, span-stop, span-go, back-end, back-stop, back-go, closing-end, closing-stop, closing-go, trim-start-stop, trim-start-go, trim-end-stop, trim-end-go}
+use Rattle.scan.specs.Scan.{inClass, spanTo, backTo, closingTo, trimStart, trimEnd}
+use Prim.Native.Nat.{ℕ, _+_, _-_, _≤_, _<_}
+use mathlib.Core.Path.{_≡_, refl, sym, _∙_, ap}
+use native.Mathlib.Omega.{arith}
+use borrow.Author.Tests.{le-leb, lt-leb, eq-eqb, ne-eqb, lt-ltb, le-ltb, not-true, not-false}
+use borrow.Author.Needs.{needs}
+use Rattle.scan.proofs.trim_start.Statement.{statement}
+use Rattle.scan.proofs.trim_start.Tie as tie
+use Rattle.scan.proofs.trim_start.Reads as reads
+use Rattle.scan.proofs.trim_start.Lts as lts
+use Rattle.scan.proofs.blank_at.Reads as blank-at-reads
+
+abbrev Inv-loop : tie.InvT-loop
+Inv-loop text from to i₀ i = (from ≤ i) × (i ≤ to) × (trimStart text from to ≡ trimStart text i to)
+
+abbrev μ-loop : tie.MeasureT-loop
+μ-loop text from to i₀ i = to - i
+
+loop-holds : tie.Need-loop-holds Inv-loop μ-loop
+loop-holds c = search needs
+
+blank-at-requires : tie.Need-blank-at-requires Inv-loop μ-loop
+blank-at-requires c κs = search needs
+
+returns : tie.Need-returns Inv-loop μ-loop
+returns c = record { is = sym (c .before .before .loop .inv .2 ∙ trim-start-stop _ _ _ _ (c .before .blank-at .ensures .0) (c .if1 .taken)); low = search needs; high = search needs }
+
+add-i : tie.Need-add-i Inv-loop μ-loop
+add-i c = search needs
+
+loop-less : tie.Need-loop-less Inv-loop μ-loop
+loop-less c = search needs
+
+loop-again : tie.Need-loop-again Inv-loop μ-loop
+loop-again c = (search needs, search needs, c .before .before .loop .inv .2 ∙ trim-start-go _ _ _ _ (c .before .blank-at .ensures .0) (c .if1 .left))
+
+pub trim-start-spec : {M : Type 1} → statement M
+trim-start-spec =
+    tie.close
+    (tie.spec Inv-loop μ-loop loop-holds blank-at-requires returns add-i loop-less loop-again)

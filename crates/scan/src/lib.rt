@@ -1,0 +1,188 @@
+// Scans over a text by positions: classes of bytes, blanks, trimming, the closing parenthesis.
+ghost use mathlib.Core.Path.{_≡_};
+ghost use Prim.Native.Nat.{_+_, _-_, _^_, _≤_, _<_};
+ghost use lib.ListN.{length};
+ghost use Rattle.scan.specs.Scan.{digitOf, inClass, isBlank, blankAt, blankBefore, spanTo, backTo, trimStart, trimEnd, opened as openedBy, closingTo, Place};
+
+// A class of bytes: the digits of a radix up to 16, the ASCII letters, one byte, all but one, either of two, neither of two.
+pub enum Class {
+    Digit(u8),
+    Letter,
+    Is(u8),
+    Not(u8),
+    Either(u8, u8),
+    Neither(u8, u8),
+}
+
+// The value of a hexadecimal digit of either case, and 16 for any other byte.
+pub fn digit_of(b: u8) -> u8
+    ensures { λ r. ⌜ r ≡ digitOf b ⌝ }
+{
+    if b < 48 {
+        return 16;
+    }
+    if b <= 57 {
+        return b - 48;
+    }
+    if b < 65 {
+        return 16;
+    }
+    if b <= 70 {
+        return b - 55;
+    }
+    if b < 97 {
+        return 16;
+    }
+    if b <= 102 {
+        return b - 87;
+    }
+    16
+}
+
+fn is_letter(b: u8) -> bool
+    ensures { λ r. ⌜ r ≡ inClass Class.Letter b ⌝ }
+{
+    if b >= 97 {
+        b <= 122
+    } else if b >= 65 {
+        b <= 90
+    } else {
+        false
+    }
+}
+
+// Whether a byte is of a class.
+pub fn has(class: Class, b: u8) -> bool
+    ensures { λ r. ⌜ r ≡ inClass «class» b ⌝ }
+{
+    match class {
+        Class::Digit(radix) => digit_of(b) < radix,
+        Class::Letter => is_letter(b),
+        Class::Is(x) => b == x,
+        Class::Not(x) => b != x,
+        Class::Either(x, y) => if b == x { true } else { b == y },
+        Class::Neither(x, y) => if b == x { false } else { b != y },
+    }
+}
+
+// The first place from `from` on whose byte is not of the class, or `to`.
+pub fn span(text: &[u8], class: Class, from: usize, to: usize) -> usize
+    requires { ⌜ (from ≤ to) × (to ≤ length (now text)) ⌝ }
+    ensures { λ r. ⌜ Place from to (spanTo (inClass «class») (now (text .entry)) from to) r ⌝ }
+{
+    let mut i = from;
+    while i < to {
+        if !has(class, text[i]) {
+            return i;
+        }
+        i += 1;
+    }
+    i
+}
+
+// The least place from which on, up to `to`, all bytes are of the class.
+pub fn span_back(text: &[u8], class: Class, from: usize, to: usize) -> usize
+    requires { ⌜ (from ≤ to) × (to ≤ length (now text)) ⌝ }
+    ensures { λ r. ⌜ Place from to (backTo (inClass «class») (now (text .entry)) from to) r ⌝ }
+{
+    let mut e = to;
+    while from < e {
+        if !has(class, text[e - 1]) {
+            return e;
+        }
+        e -= 1;
+    }
+    e
+}
+
+fn is_blank(b: u8) -> bool
+    ensures { λ r. ⌜ r ≡ isBlank b ⌝ }
+{
+    b == 32 || (b >= 9 && b <= 13)
+}
+
+// The width of the blank that starts at i, 0 where none does.
+pub fn blank_at(text: &[u8], i: usize, to: usize) -> usize
+    requires { ⌜ (i ≤ to) × (to ≤ length (now text)) ⌝ }
+    ensures { λ r. ⌜ (r ≡ blankAt (now (text .entry)) i to) × (i + r ≤ to) ⌝ }
+{
+    if i < to {
+        if is_blank(text[i]) {
+            return 1;
+        }
+    }
+    0
+}
+
+// The width of the blank that ends at e, 0 where none does.
+pub fn blank_before(text: &[u8], from: usize, e: usize) -> usize
+    requires { ⌜ (from ≤ e) × (e ≤ length (now text)) ⌝ }
+    ensures { λ r. ⌜ (r ≡ blankBefore (now (text .entry)) from e) × (from + r ≤ e) ⌝ }
+{
+    if from < e {
+        if is_blank(text[e - 1]) {
+            return 1;
+        }
+    }
+    0
+}
+
+// Where the text between two places begins once its leading blanks are dropped.
+pub fn trim_start(text: &[u8], from: usize, to: usize) -> usize
+    requires { ⌜ (from ≤ to) × (to ≤ length (now text)) ⌝ }
+    ensures { λ r. ⌜ Place from to (trimStart (now (text .entry)) from to) r ⌝ }
+{
+    let mut i = from;
+    loop {
+        let w = blank_at(text, i, to);
+        if w == 0 {
+            return i;
+        }
+        i += w;
+    }
+}
+
+// Where it ends once its trailing blanks are dropped.
+pub fn trim_end(text: &[u8], from: usize, to: usize) -> usize
+    requires { ⌜ (from ≤ to) × (to ≤ length (now text)) ⌝ }
+    ensures { λ r. ⌜ Place from to (trimEnd (now (text .entry)) from to) r ⌝ }
+{
+    let mut e = to;
+    loop {
+        let w = blank_before(text, from, e);
+        if w == 0 {
+            return e;
+        }
+        e -= w;
+    }
+}
+
+fn opened(b: u8, k: usize) -> usize
+    requires { ⌜ (0 < k) × (k < 2 ^ 63) ⌝ }
+    ensures { λ r. ⌜ (r ≡ openedBy b k) × (r ≤ k + 1) ⌝ }
+{
+    if b == 40 {
+        k + 1
+    } else if b == 41 {
+        k - 1
+    } else {
+        k
+    }
+}
+
+// The place of the parenthesis that closes the one open before `from`, or `to`.
+pub fn closing(text: &[u8], from: usize, to: usize) -> usize
+    requires { ⌜ (from ≤ to) × (to ≤ length (now text)) ⌝ }
+    ensures { λ r. ⌜ Place from to (closingTo (now (text .entry)) from to 1) r ⌝ }
+{
+    let mut i = from;
+    let mut k: usize = 1;
+    while i < to {
+        k = opened(text[i], k);
+        if k == 0 {
+            return i;
+        }
+        i += 1;
+    }
+    i
+}
