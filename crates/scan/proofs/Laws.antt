@@ -10,7 +10,7 @@ use native.Mathlib.Decide.{decLe}
 use lib.ListN.{length, getD}
 use lib.Dec.{ltb, leb, eqb}
 use borrow.Author.Tests.{eq-eqb, ne-eqb, lt-ltb, le-ltb, le-leb, lt-leb}
-use Rattle.scan.specs.Scan.{pick, digitOf, isBlank, blankAt, blankBefore, span, spanTo, back, backTo, skip, trimStart, skipBack, trimEnd, opened, closing, closingTo}
+use Rattle.scan.specs.Scan.{pick, digitOf, isBlank, blankAt, blankBefore, span, spanTo, back, backTo, skip, skipTo, skipBack, trimEnd, opened, closing, closingTo}
 
 pub more : (i e : ℕ) → i < e → e - i ≡ suc (e - (i + 1))
 more i e h = omega arith
@@ -113,20 +113,36 @@ blank-before-fits s i e =
     (le-or-lt e i)
 
 -- more fuel than there are bytes left changes nothing
-skip-fuel : (s : List ℕ) (e n m i : ℕ) → e - i ≤ n → e - i ≤ m → skip s e n i ≡ skip s e m i
-unfolding skip
-skip-fuel s e zero zero i a b = refl
-skip-fuel s e zero (suc m) i a b =
-    let z : blankAt s i e ≡ 0 = omega (arith, blank-at-fits s i e) in
-    rw (eq-eqb (blankAt s i e) 0 z)
-skip-fuel s e (suc n) zero i a b =
-    let z : blankAt s i e ≡ 0 = omega (arith, blank-at-fits s i e) in
-    rw (eq-eqb (blankAt s i e) 0 z)
-skip-fuel s e (suc n) (suc m) i a b =
-    ⊎-elim
-    (λ (z : blankAt s i e ≡ 0). rw (eq-eqb (blankAt s i e) 0 z))
-    (λ (z : ¬ (blankAt s i e ≡ 0)). rw (ne-eqb (blankAt s i e) 0 z) (skip-fuel s e n m (i + blankAt s i e) (omega arith) (omega arith)))
-    (zero-or (blankAt s i e))
+module _ (width : List ℕ → ℕ → ℕ → ℕ) (fits : (s : List ℕ) (i e : ℕ) → width s i e ≤ e - i) where
+  skip-fuel : (s : List ℕ) (e n m i : ℕ) → e - i ≤ n → e - i ≤ m → skip width s e n i ≡ skip width s e m i
+  unfolding skip
+  skip-fuel s e zero zero i a b = refl
+  skip-fuel s e zero (suc m) i a b =
+      let z : width s i e ≡ 0 = omega (arith, fits s i e) in
+      rw (eq-eqb (width s i e) 0 z)
+  skip-fuel s e (suc n) zero i a b =
+      let z : width s i e ≡ 0 = omega (arith, fits s i e) in
+      rw (eq-eqb (width s i e) 0 z)
+  skip-fuel s e (suc n) (suc m) i a b =
+      ⊎-elim
+      (λ (z : width s i e ≡ 0). rw (eq-eqb (width s i e) 0 z))
+      (λ (z : ¬ (width s i e ≡ 0)). rw (ne-eqb (width s i e) 0 z) (skip-fuel s e n m (i + width s i e) (omega arith) (omega arith)))
+      (zero-or (width s i e))
+
+  pub skip-stop : (s : List ℕ) (i e w : ℕ) → w ≡ width s i e → w ≡ 0 → skipTo width s i e ≡ i
+  unfolding skip
+  skip-stop s i e w q z = go (e - i)
+    where
+      go : (n : ℕ) → skip width s e n i ≡ i
+      go zero = refl
+      go (suc n) = rw (← q, eq-eqb w 0 z)
+
+  pub skip-go : (s : List ℕ) (i e w : ℕ) → w ≡ width s i e → ¬ (w ≡ 0) → skipTo width s i e ≡ skipTo width s (i + w) e
+  unfolding skip
+  skip-go s i e w q z =
+      let f : w ≤ e - i = rw q (fits s i e) in
+      let m : e - i ≡ suc (e - (i + 1)) = omega arith in
+      rw (m, ← q, ne-eqb w 0 z) (skip-fuel s e (e - (i + 1)) (e - (i + w)) (i + w) (omega arith) (omega arith))
 
 skip-back-fuel : (s : List ℕ) (i n m e : ℕ) → e - i ≤ n → e - i ≤ m → skipBack s i n e ≡ skipBack s i m e
 unfolding skipBack
@@ -144,21 +160,6 @@ skip-back-fuel s i (suc n) (suc m) e a b =
     (zero-or (blankBefore s i e))
 
 module _ (s : List ℕ) (i e w : ℕ) where
-  pub trim-start-stop : w ≡ blankAt s i e → w ≡ 0 → trimStart s i e ≡ i
-  unfolding skip
-  trim-start-stop q z = go (e - i)
-    where
-      go : (n : ℕ) → skip s e n i ≡ i
-      go zero = refl
-      go (suc n) = rw (← q, eq-eqb w 0 z)
-
-  pub trim-start-go : w ≡ blankAt s i e → ¬ (w ≡ 0) → trimStart s i e ≡ trimStart s (i + w) e
-  unfolding skip
-  trim-start-go q z =
-      let f : w ≤ e - i = rw q (blank-at-fits s i e) in
-      let m : e - i ≡ suc (e - (i + 1)) = omega arith in
-      rw (m, ← q, ne-eqb w 0 z) (skip-fuel s e (e - (i + 1)) (e - (i + w)) (i + w) (omega arith) (omega arith))
-
   pub trim-end-stop : w ≡ blankBefore s i e → w ≡ 0 → trimEnd s i e ≡ e
   unfolding skipBack
   trim-end-stop q z = go (e - i)

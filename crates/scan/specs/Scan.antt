@@ -58,15 +58,20 @@ back p s i (suc n) = let r = back p s i n in pick (p (getD s (i + n) 0)) r (i + 
 abbrev pub backTo : (ℕ → Bool) → List ℕ → ℕ → ℕ → ℕ
 backTo p s i e = back p s i (e - i)
 
--- Rust's `trim_start` between i and e: past at most n blanks
-unfoldable pub skip : List ℕ → ℕ → ℕ → ℕ → ℕ
-skip s e zero i = i
-skip s e (suc n) i =
-    let r = skip s e n (i + blankAt s i e) in
-    pick (eqb (blankAt s i e) 0) i r
+-- from i on past at most n pieces, each as wide as `width s i e` says of one that starts at i, before e; 0 for none
+unfoldable pub skip : (List ℕ → ℕ → ℕ → ℕ) → List ℕ → ℕ → ℕ → ℕ → ℕ
+skip width s e zero i = i
+skip width s e (suc n) i =
+    let r = skip width s e n (i + width s i e) in
+    pick (eqb (width s i e) 0) i r
 
+-- Rust's `trim_start_matches` between i and e
+abbrev pub skipTo : (List ℕ → ℕ → ℕ → ℕ) → List ℕ → ℕ → ℕ → ℕ
+skipTo width s i e = skip width s e (e - i) i
+
+-- Rust's `trim_start` between i and e
 abbrev pub trimStart : List ℕ → ℕ → ℕ → ℕ
-trimStart s i e = skip s e (e - i) i
+trimStart s i e = skipTo blankAt s i e
 
 -- Rust's `trim_end` between i and e
 unfoldable pub skipBack : List ℕ → ℕ → ℕ → ℕ → ℕ
@@ -77,6 +82,10 @@ skipBack s i (suc n) e =
 
 abbrev pub trimEnd : List ℕ → ℕ → ℕ → ℕ
 trimEnd s i e = skipBack s i (e - i) e
+
+-- the place behind i where the byte there, before e, passes the test p, else i
+abbrev pub past : (ℕ → Bool) → List ℕ → ℕ → ℕ → ℕ
+past p s i e = pick (ltb i e) (pick (p (getD s i 0)) (i + 1) i) i
 
 -- how many parentheses are open after the byte b, k being open before it
 abbrev pub opened : ℕ → ℕ → ℕ

@@ -2,7 +2,7 @@
 ghost use mathlib.Core.Path.{_≡_};
 ghost use Prim.Native.Nat.{_+_, _-_, _^_, _≤_, _<_};
 ghost use lib.ListN.{length};
-ghost use Rattle.scan.specs.Scan.{digitOf, inClass, isBlank, blankAt, blankBefore, spanTo, backTo, trimStart, trimEnd, opened as openedBy, closingTo, Place};
+ghost use Rattle.scan.specs.Scan.{digitOf, inClass, isBlank, blankAt, blankBefore, spanTo, backTo, trimStart, trimEnd, past as pastTo, opened as openedBy, closingTo, Place};
 
 // A class of bytes: the digits of a radix up to 16, the ASCII letters, one byte, all but one, either of two, neither of two.
 pub enum Class {
@@ -155,6 +155,19 @@ pub fn trim_end(text: &[u8], from: usize, to: usize) -> usize
         }
         e -= w;
     }
+}
+
+// The place behind i where the byte there is of the class, else i.
+pub fn past(text: &[u8], class: Class, i: usize, to: usize) -> usize
+    requires { ⌜ (i ≤ to) × (to ≤ length (now text)) ⌝ }
+    ensures { λ r. ⌜ Place i to (pastTo (inClass «class») (now (text .entry)) i to) r ⌝ }
+{
+    if i < to {
+        if has(class, text[i]) {
+            return i + 1;
+        }
+    }
+    i
 }
 
 fn opened(b: u8, k: usize) -> usize

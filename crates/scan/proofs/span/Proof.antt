@@ -1,4 +1,4 @@
-use Rattle.scan.proofs.Laws.{span-end, span-stop, span-go, back-end, back-stop, back-go, closing-end, closing-stop, closing-go, trim-start-stop, trim-start-go, trim-end-stop, trim-end-go}
+use Rattle.scan.proofs.Laws.{span-end, span-stop, span-go, back-end, back-stop, back-go, closing-end, closing-stop, closing-go, trim-end-stop, trim-end-go}
 use Rattle.scan.specs.Scan.{inClass, spanTo, backTo, closingTo, trimStart, trimEnd}
 use Prim.Native.Nat.{ℕ, _+_, _-_, _≤_, _<_}
 use mathlib.Core.Path.{_≡_, refl, sym, _∙_, ap}

@@ -1,4 +1,4 @@
-use Rattle.scan.proofs.Laws.{span-end, span-stop, span-go, back-end, back-stop, back-go, closing-end, closing-stop, closing-go, trim-start-stop, trim-start-go, trim-end-stop, trim-end-go}
+use Rattle.scan.proofs.Laws.{span-end, span-stop, span-go, back-end, back-stop, back-go, closing-end, closing-stop, closing-go, skip-stop, skip-go, blank-at-fits, trim-end-stop, trim-end-go}
 use Rattle.scan.specs.Scan.{inClass, spanTo, backTo, closingTo, trimStart, trimEnd}
 use Prim.Native.Nat.{ℕ, _+_, _-_, _≤_, _<_}
 use mathlib.Core.Path.{_≡_, refl, sym, _∙_, ap}
@@ -24,7 +24,7 @@ blank-at-requires : tie.Need-blank-at-requires Inv-loop μ-loop
 blank-at-requires c κs = search needs
 
 returns : tie.Need-returns Inv-loop μ-loop
-returns c = record { is = sym (c .before .before .loop .inv .2 ∙ trim-start-stop _ _ _ _ (c .before .blank-at .ensures .0) (c .if1 .taken)); low = search needs; high = search needs }
+returns c = record { is = sym (c .before .before .loop .inv .2 ∙ skip-stop _ blank-at-fits _ _ _ _ (c .before .blank-at .ensures .0) (c .if1 .taken)); low = search needs; high = search needs }
 
 add-i : tie.Need-add-i Inv-loop μ-loop
 add-i c = search needs
@@ -33,7 +33,7 @@ loop-less : tie.Need-loop-less Inv-loop μ-loop
 loop-less c = search needs
 
 loop-again : tie.Need-loop-again Inv-loop μ-loop
-loop-again c = (search needs, search needs, c .before .before .loop .inv .2 ∙ trim-start-go _ _ _ _ (c .before .blank-at .ensures .0) (c .if1 .left))
+loop-again c = (search needs, search needs, c .before .before .loop .inv .2 ∙ skip-go _ blank-at-fits _ _ _ _ (c .before .blank-at .ensures .0) (c .if1 .left))
 
 pub trim-start-spec : {M : Type 1} → statement M
 trim-start-spec =

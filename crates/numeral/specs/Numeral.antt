@@ -1,0 +1,135 @@
+-- Numbers as text writes them. 01, Numerals.
+use mathlib.Core.Path.{_≡_, refl}
+use mathlib.Core.List.{List, [], _∷_}
+use mathlib.Core.Bool.{Bool, true, false}
+use Prim.Native.Nat.{ℕ, zero, suc, _+_, _-_, _*_, _^_, _≤_}
+use lib.ListN.{getD}
+use lib.Dec.{ltb, leb, eqb}
+use lib.IntN.{ℤ, pos, negℤ}
+use lib.Ieee.{Float, binary32, round, toBits}
+use Rattle.scan.specs.Scan.{pick, digitOf, inClass, spanTo, past, trimStart, trimEnd}
+use Rattle.scan.specs.declared.Class.the-variants.{Digit, Is, Either}
+use Rattle.float.specs.Words.{toWord}
+use Rattle.numeral.specs.declared.Numeral.{Numeral}
+use Rattle.numeral.specs.declared.Numeral.the-variants.{No, TooLong, Word}
+use Rattle.numeral.specs.declared.Decimal.{Decimal}
+
+-- the classes of bytes that numbers are made of
+abbrev pub isDigit : ℕ → Bool
+isDigit b = inClass (Digit 10) b
+
+abbrev pub isSign : ℕ → Bool
+isSign b = inClass (Either 43 45) b
+
+abbrev pub isMinus : ℕ → Bool
+isMinus b = inClass (Is 45) b
+
+abbrev pub isPlus : ℕ → Bool
+isPlus b = inClass (Is 43) b
+
+abbrev pub isPoint : ℕ → Bool
+isPoint b = inClass (Is 46) b
+
+abbrev pub isE : ℕ → Bool
+isE b = inClass (Either 69 101) b
+
+-- the number that n digits of a radix from i on write behind a
+unfoldable pub value : ℕ → List ℕ → ℕ → ℕ → ℕ → ℕ
+value radix s zero i a = a
+value radix s (suc n) i a = value radix s n (i + 1) (a * radix + digitOf (getD s i 0))
+
+-- more than any whole number that is kept
+abbrev pub most : ℕ
+most = 1000000000000000000
+
+-- the whole number that fills the text from i to e, at least one digit; `most` where there is none
+unfoldable pub wholeNumber : ℕ → List ℕ → ℕ → ℕ → ℕ
+wholeNumber radix s i e = pick (ltb i e) (pick (eqb (spanTo (inClass (Digit radix)) s i e) e) (value radix s (e - i) i 0) most) most
+
+-- an i32, or none
+pub data I32 : Type 0 where
+  none : I32
+  whole : ℤ → I32
+
+abbrev pub wordOfI32 : I32 → Numeral
+wordOfI32 none = No
+wordOfI32 (whole z) = Word (toWord z)
+
+-- 01, Numerals: integers follow Rust's i32 (sign allowed, too large is no number); here the text from a to b
+unfoldable pub i32Of : List ℕ → ℕ → ℕ → I32
+i32Of s a b =
+    let v = wholeNumber 10 s (past isSign s a b) b in
+    pick (eqb (past isMinus s a b) a)
+    (pick (leb v 2147483647) (whole (pos v)) none)
+    (pick (leb v 2147483648) (whole (negℤ (pos v))) none)
+
+-- the same, blanks around it dropped
+abbrev pub i32At : List ℕ → ℕ → ℕ → I32
+i32At s p q =
+    let a = trimStart s p q in
+    i32Of s a (trimEnd s a q)
+
+abbrev pub upTo : ℕ → ℕ → Numeral
+upTo v limit = pick (leb v limit) (Word v) No
+
+-- 01, Numerals: hexadecimal follows Rust's u32 (`+` allowed); here the text from a to b
+unfoldable pub hexAt : List ℕ → ℕ → ℕ → Numeral
+hexAt s a b = upTo (wholeNumber 16 s (past isPlus s a b) b) 4294967295
+
+-- where the digits of a numeral stand: optional sign, digits with at most one point
+unfoldable pub splitAt : List ℕ → ℕ → ℕ → Decimal
+splitAt s a b =
+    let i = past isSign s a b in
+    let d = spanTo isDigit s i b in
+    let f = past isPoint s d b in
+    record { from = i; whole = d; fraction = f; end = spanTo isDigit s f b }
+
+-- whether an exponent that Rust accepts fills the text from i to b: e or E, optional sign, at least one digit
+unfoldable pub exponentAt : List ℕ → ℕ → ℕ → Bool
+exponentAt s i b =
+    let x = past isE s i b in
+    let d = past isSign s x b in
+    pick (ltb i x) (pick (ltb d b) (eqb (spanTo isDigit s d b) b) false) false
+
+-- an f32, a numeral that is too long with the place of its first byte, or none
+pub data F32 : Type 0 where
+  none : F32
+  tooLong : ℕ → F32
+  number : Float → F32
+
+abbrev pub wordOfF32 : F32 → Numeral
+wordOfF32 none = No
+wordOfF32 (tooLong p) = TooLong p
+wordOfF32 (number x) = Word (toBits binary32 x)
+
+-- the f32 nearest to what the digits at d say, ties to even
+unfoldable pub floatOf : List ℕ → ℕ → ℕ → Decimal → Float
+floatOf s a b d =
+    round binary32
+    (ltb a (past isMinus s a b))
+    (value 10 s (d .end - d .fraction) (d .fraction) (value 10 s (d .whole - d .from) (d .from) 0))
+    (10 ^ (d .end - d .fraction))
+
+-- 01, Numerals: a good one has at least one digit and at most 9 on each side of the point; one that is otherwise good, or has an exponent, is too long
+unfoldable pub f32Of : List ℕ → ℕ → ℕ → F32
+f32Of s a b =
+    let d = splitAt s a b in
+    let x = floatOf s a b d in
+    pick (eqb (d .whole - d .from + (d .end - d .fraction)) 0) none
+    (pick (ltb (d .end) b) (pick (exponentAt s (d .end) b) (tooLong a) none)
+    (pick (leb (d .whole - d .from) 9) (pick (leb (d .end - d .fraction) 9) (number x) (tooLong a)) (tooLong a)))
+
+-- the same, blanks around it dropped
+abbrev pub f32At : List ℕ → ℕ → ℕ → F32
+f32At s p q =
+    let a = trimStart s p q in
+    f32Of s a (trimEnd s a q)
+
+-- the digits of a numeral and the order of their places
+pub record Split (s : List ℕ) (a b : ℕ) (d : Decimal) : Type 0 where
+  pub is : d ≡ splitAt s a b
+  pub low : a ≤ d .from
+  pub whole-low : d .from ≤ d .whole
+  pub fraction-low : d .whole ≤ d .fraction
+  pub end-low : d .fraction ≤ d .end
+  pub high : d .end ≤ b

@@ -1,0 +1,160 @@
+// Numbers as text writes them: numerals, whole numbers, hexadecimal.
+ghost use mathlib.Core.Path.{_≡_};
+ghost use Prim.Native.Nat.{_+_, _-_, _≤_, _<_, min};
+ghost use lib.ListN.{length};
+ghost use Rattle.numeral.specs.Numeral.{value as valueOf, most, wholeNumber, splitAt, exponentAt, f32Of, f32At, i32At, wordOfF32, wordOfI32, hexAt, Split};
+
+// What a field holds: no number, a numeral that is too long with the place of its first byte, or the word of a number.
+pub enum Numeral {
+    No,
+    TooLong(usize),
+    Word(u32),
+}
+
+// Where a decimal numeral's digits stand: before the point from `from` to `whole`, behind it from `fraction` to `end`.
+pub struct Decimal {
+    pub from: usize,
+    pub whole: usize,
+    pub fraction: usize,
+    pub end: usize,
+}
+
+fn least(a: u64, b: u64) -> u64
+    ensures { λ r. ⌜ r ≡ min a b ⌝ }
+{
+    if a <= b { a } else { b }
+}
+
+// The number that the digits between two places write behind `start`, at most 10^18.
+fn value(text: &[u8], radix: u8, from: usize, to: usize, start: u64) -> u64
+    requires { ⌜ (from ≤ to) × (to ≤ length (now text)) × (0 < radix) × (radix ≤ 16) × (start ≤ most) ⌝ }
+    ensures { λ r. ⌜ r ≡ min most (valueOf radix (now (text .entry)) (to - from) from start) ⌝ }
+{
+    let mut i = from;
+    let mut a = start;
+    while i < to {
+        a = least(1000000000000000000, a * wide(radix) + wide(scan::digit_of(text[i])));
+        i += 1;
+    }
+    a
+}
+
+fn wide(b: u8) -> u64
+    ensures { λ r. ⌜ r ≡ b ⌝ }
+{
+    b as u64
+}
+
+// The whole number that fills the text between two places; 10^18 where it is larger or there is none.
+fn whole_number(text: &[u8], radix: u8, from: usize, to: usize) -> u64
+    requires { ⌜ (from ≤ to) × (to ≤ length (now text)) × (0 < radix) × (radix ≤ 16) ⌝ }
+    ensures { λ r. ⌜ r ≡ min most (wholeNumber radix (now (text .entry)) from to) ⌝ }
+{
+    if from < to {
+        if scan::span(text, scan::Class::Digit(radix), from, to) == to {
+            return value(text, radix, from, to, 0);
+        }
+    }
+    1000000000000000000
+}
+
+// A whole number as Rust reads an i32, blanks around it dropped: its word in two's complement.
+pub fn i32_at(text: &[u8], p: usize, q: usize) -> Numeral
+    requires { ⌜ (p ≤ q) × (q ≤ length (now text)) ⌝ }
+    ensures { λ r. ⌜ r ≡ wordOfI32 (i32At (now (text .entry)) p q) ⌝ }
+{
+    let a = scan::trim_start(text, p, q);
+    let b = scan::trim_end(text, a, q);
+    let v = whole_number(text, 10, scan::past(text, scan::Class::Either(43, 45), a, b), b);
+    if scan::past(text, scan::Class::Is(45), a, b) == a {
+        return up_to(v, 2147483647);
+    }
+    if v == 0 {
+        return Numeral::Word(0);
+    }
+    if v <= 2147483648 {
+        return Numeral::Word((4294967296 - v) as u32);
+    }
+    Numeral::No
+}
+
+fn up_to(v: u64, limit: u32) -> Numeral
+    ensures { λ r. ⌜ r ≡ Rattle.numeral.specs.Numeral.upTo v limit ⌝ }
+{
+    if v <= limit as u64 { Numeral::Word(v as u32) } else { Numeral::No }
+}
+
+// A hexadecimal number that fills the text between two places, as Rust's `u32::from_str_radix` reads it.
+pub fn hex_at(text: &[u8], a: usize, b: usize) -> Numeral
+    requires { ⌜ (a ≤ b) × (b ≤ length (now text)) ⌝ }
+    ensures { λ r. ⌜ r ≡ hexAt (now (text .entry)) a b ⌝ }
+{
+    up_to(whole_number(text, 16, scan::past(text, scan::Class::Is(43), a, b), b), 4294967295)
+}
+
+// The digits of a numeral that starts at a.
+fn decimal_at(text: &[u8], a: usize, b: usize) -> Decimal
+    requires { ⌜ (a ≤ b) × (b ≤ length (now text)) ⌝ }
+    ensures { λ r. ⌜ Split (now (text .entry)) a b r ⌝ }
+{
+    let from = scan::past(text, scan::Class::Either(43, 45), a, b);
+    let whole = scan::span(text, scan::Class::Digit(10), from, b);
+    let fraction = scan::past(text, scan::Class::Is(46), whole, b);
+    let end = scan::span(text, scan::Class::Digit(10), fraction, b);
+    Decimal { from, whole, fraction, end }
+}
+
+// Whether an exponent fills the text from i on.
+fn exponent_at(text: &[u8], i: usize, b: usize) -> bool
+    requires { ⌜ (i ≤ b) × (b ≤ length (now text)) ⌝ }
+    ensures { λ r. ⌜ r ≡ exponentAt (now (text .entry)) i b ⌝ }
+{
+    let x = scan::past(text, scan::Class::Either(69, 101), i, b);
+    let d = scan::past(text, scan::Class::Either(43, 45), x, b);
+    if i < x {
+        if d < b {
+            return scan::span(text, scan::Class::Digit(10), d, b) == b;
+        }
+    }
+    false
+}
+
+// The word of a numeral that starts at a.
+fn decimal_word(text: &[u8], a: usize, b: usize, d: Decimal) -> u32
+    requires { ⌜ (a ≤ b) × (b ≤ length (now text)) × Split (now text) a b d × (d .whole ≤ d .from + 9) × (d .end ≤ d .fraction + 9) ⌝ }
+    ensures { λ r. ⌜ Numeral.Word r ≡ wordOfF32 (f32Of (now (text .entry)) a b) ⌝ }
+{
+    let negative = a < scan::past(text, scan::Class::Is(45), a, b);
+    let digits = value(text, 10, d.fraction, d.end, value(text, 10, d.from, d.whole, 0));
+    decimal::decimal_word(negative, digits, (d.end - d.fraction) as u32)
+}
+
+// The numeral that fills the text between two places.
+fn f32_of(text: &[u8], a: usize, b: usize) -> Numeral
+    requires { ⌜ (a ≤ b) × (b ≤ length (now text)) ⌝ }
+    ensures { λ r. ⌜ r ≡ wordOfF32 (f32Of (now (text .entry)) a b) ⌝ }
+{
+    let d = decimal_at(text, a, b);
+    if d.whole == d.from && d.end == d.fraction {
+        return Numeral::No;
+    }
+    if d.end < b {
+        if exponent_at(text, d.end, b) {
+            return Numeral::TooLong(a);
+        }
+        return Numeral::No;
+    }
+    if d.whole > d.from + 9 || d.end > d.fraction + 9 {
+        return Numeral::TooLong(a);
+    }
+    Numeral::Word(decimal_word(text, a, b, d))
+}
+
+// A numeral of 01, blanks around it dropped: the bits of its f32.
+pub fn f32_at(text: &[u8], p: usize, q: usize) -> Numeral
+    requires { ⌜ (p ≤ q) × (q ≤ length (now text)) ⌝ }
+    ensures { λ r. ⌜ r ≡ wordOfF32 (f32At (now (text .entry)) p q) ⌝ }
+{
+    let a = scan::trim_start(text, p, q);
+    f32_of(text, a, scan::trim_end(text, a, q))
+}
