@@ -6,7 +6,7 @@ use Prim.Native.Nat.{ℕ, zero, suc, _+_, _-_, _≤_}
 use lib.ListN.{getD}
 use lib.Dec.{ltb, leb, eqb}
 use Rattle.scan.specs.declared.Class.{Class}
-use Rattle.scan.specs.declared.Class.the-variants.{Digit, Letter, Is, Not, Either, Neither}
+use Rattle.scan.specs.declared.Class.the-variants.{Digit, Letter, Is, Not, Either, Neither, Below}
 
 -- a where b is true, else d. A recursive call goes in by a `let`, which waits.
 abbrev pub pick : {A : Type 0} → Bool → A → A → A
@@ -29,6 +29,7 @@ inClass (Is x) b = eqb b x
 inClass (Not x) b = not (eqb b x)
 inClass (Either x y) b = pick (eqb b x) true (eqb b y)
 inClass (Neither x y) b = pick (eqb b x) false (not (eqb b y))
+inClass (Below x) b = ltb b x
 
 -- 01, Blanks: bytes 9 to 13 and 32
 abbrev pub isBlank : ℕ → Bool

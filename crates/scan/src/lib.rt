@@ -4,7 +4,7 @@ ghost use Prim.Native.Nat.{_+_, _-_, _^_, _≤_, _<_};
 ghost use lib.ListN.{length};
 ghost use Rattle.scan.specs.Scan.{digitOf, inClass, isBlank, blankAt, blankBefore, spanTo, backTo, trimStart, trimEnd, past as pastTo, opened as openedBy, closingTo, Place};
 
-// A class of bytes: the digits of a radix up to 16, the ASCII letters, one byte, all but one, either of two, neither of two.
+// A class of bytes: the digits of a radix up to 16, the ASCII letters, one byte, all but one, either of two, neither of two, those below one.
 pub enum Class {
     Digit(u8),
     Letter,
@@ -12,6 +12,7 @@ pub enum Class {
     Not(u8),
     Either(u8, u8),
     Neither(u8, u8),
+    Below(u8),
 }
 
 // The value of a hexadecimal digit of either case, and 16 for any other byte.
@@ -62,6 +63,7 @@ pub fn has(class: Class, b: u8) -> bool
         Class::Not(x) => b != x,
         Class::Either(x, y) => if b == x { true } else { b == y },
         Class::Neither(x, y) => if b == x { false } else { b != y },
+        Class::Below(x) => b < x,
     }
 }
 

@@ -1,4 +1,4 @@
-use borrow.Author.Tests.{le-leb, lt-leb, eq-eqb, ne-eqb, lt-ltb, le-ltb, not-true, not-false}
+use borrow.Author.Tests.{eq-eqb, ne-eqb}
 use borrow.Author.Needs.{needs}
 use Rattle.scan.proofs.has.Statement.{statement}
 use Rattle.scan.proofs.has.Tie as tie
@@ -31,6 +31,9 @@ enum-known-class-4 c = search needs
 enum-known-class-5 : tie.Need-enum-known-class-5
 enum-known-class-5 c = search needs
 
+enum-known-class-6 : tie.Need-enum-known-class-6
+enum-known-class-6 c = search needs
+
 returns : tie.Need-returns
 returns c = rw (c .before .before .class .given .1, c .digit-of .ensures)
 
@@ -55,6 +58,9 @@ returns-7 c = rw (c .before .before .class5 .given .1, eq-eqb _ _ (c .if2 .taken
 returns-8 : tie.Need-returns-8
 returns-8 c = rw (c .before .before .class5 .given .1, ne-eqb _ _ (c .if2 .left))
 
+returns-9 : tie.Need-returns-9
+returns-9 c = rw (c .before .class6 .given .1)
+
 pub has-spec : {M : Type 1} → statement M
 has-spec =
     tie.close
@@ -67,6 +73,7 @@ has-spec =
     enum-known-class-3
     enum-known-class-4
     enum-known-class-5
+    enum-known-class-6
     returns
     returns-2
     returns-3
@@ -74,4 +81,5 @@ has-spec =
     returns-5
     returns-6
     returns-7
-    returns-8)
+    returns-8
+    returns-9)

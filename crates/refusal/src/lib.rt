@@ -1,0 +1,50 @@
+// 01, Grounds for turning a call down.
+ghost use mathlib.Core.Path.{_≡_};
+ghost use Rattle.refusal.specs.Refusal.{numberOf, placeOf};
+
+// The nine grounds in checking order, each with its place or count where it has one.
+pub enum Refusal {
+    TextTooLong,
+    NotAscii(usize),
+    NumeralTooLong(usize),
+    FadeTooFar(usize),
+    TableMalformed(usize),
+    TimeOutOfRange,
+    ScaleTooLarge,
+    NameBeyondText,
+    NoRoom(usize),
+}
+
+// The ground's number.
+pub fn number_of(r: Refusal) -> u32
+    ensures { λ n. ⌜ n ≡ numberOf r ⌝ }
+{
+    match r {
+        Refusal::TextTooLong => 1,
+        Refusal::NotAscii(_) => 2,
+        Refusal::NumeralTooLong(_) => 3,
+        Refusal::FadeTooFar(_) => 4,
+        Refusal::TableMalformed(_) => 5,
+        Refusal::TimeOutOfRange => 6,
+        Refusal::ScaleTooLarge => 7,
+        Refusal::NameBeyondText => 8,
+        Refusal::NoRoom(_) => 9,
+    }
+}
+
+// The stated place or count, else 0.
+pub fn place_of(r: Refusal) -> usize
+    ensures { λ n. ⌜ n ≡ placeOf r ⌝ }
+{
+    match r {
+        Refusal::TextTooLong => 0,
+        Refusal::NotAscii(p) => p,
+        Refusal::NumeralTooLong(p) => p,
+        Refusal::FadeTooFar(p) => p,
+        Refusal::TableMalformed(p) => p,
+        Refusal::TimeOutOfRange => 0,
+        Refusal::ScaleTooLarge => 0,
+        Refusal::NameBeyondText => 0,
+        Refusal::NoRoom(n) => n,
+    }
+}
