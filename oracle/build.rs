@@ -52,7 +52,11 @@ fn functions(archive: &Path) -> Vec<String> {
         .arg(archive)
         .output()
         .expect("nm runs");
-    assert!(output.status.success(), "nm failed on {}", archive.display());
+    assert!(
+        output.status.success(),
+        "nm failed on {}",
+        archive.display()
+    );
     String::from_utf8_lossy(&output.stdout)
         .lines()
         .filter_map(|line| line.split(" T ").nth(1))

@@ -5,10 +5,12 @@
   make_copy.py diff    write built.diff, the difference between upstream/ and the copy
   make_copy.py check   exit with status 1 unless built.diff is what `diff` would write
 
-Every edit states how often its pattern stands in the file. Any other number is an error.
+Every edit states how often its pattern stands in the file. Any other number is an error, and so is
+an upstream file that is not the published one.
 """
 
 import difflib
+import hashlib
 import pathlib
 import sys
 
@@ -16,6 +18,11 @@ HERE = pathlib.Path(__file__).resolve().parent
 UPSTREAM = HERE / "upstream"
 BUILT = HERE / "src" / "built"
 DIFF = HERE / "built.diff"
+
+PUBLISHED = {
+    "animate.rs": "5a09f5160a64fddb06a5d4f0236a2d5a584652d690e0de05719ef7ec56182e05",
+    "drawing.rs": "e57b90a4cfd78037fc01ac8aaf6942fd2f3896aa486bd7bb884b127731ebc404",
+}
 
 
 class EditError(Exception):
@@ -89,8 +96,15 @@ DRAWING = [
 EDITS = {"animate.rs": ANIMATE, "drawing.rs": DRAWING}
 
 
+def upstream(name):
+    content = (UPSTREAM / name).read_bytes()
+    if hashlib.sha256(content).hexdigest() != PUBLISHED[name]:
+        sys.exit(f"make_copy.py: {name} is not the published file")
+    return content.decode("utf-8")
+
+
 def built(name):
-    text = (UPSTREAM / name).read_text(encoding="utf-8")
+    text = upstream(name)
     for edit in EDITS[name]:
         try:
             text = edit(text)
@@ -102,9 +116,8 @@ def built(name):
 def whole_diff():
     lines = []
     for name in EDITS:
-        before = (UPSTREAM / name).read_text(encoding="utf-8")
         lines += difflib.unified_diff(
-            before.splitlines(keepends=True),
+            upstream(name).splitlines(keepends=True),
             built(name).splitlines(keepends=True),
             f"upstream/{name}",
             f"src/built/{name}",

@@ -32,7 +32,11 @@ impl Lent {
         if self.words == other.words {
             return None;
         }
-        let place = self.words.iter().zip(&other.words).position(|(a, b)| a != b);
+        let place = self
+            .words
+            .iter()
+            .zip(&other.words)
+            .position(|(a, b)| a != b);
         place.map(|place| place as isize - GUARD as isize)
     }
 

@@ -24,7 +24,7 @@ impl Random {
 
     /// A number below `limit`, which is above 0.
     pub fn below(&mut self, limit: usize) -> usize {
-        ((self.word64() >> 32) * limit as u64 >> 32) as usize
+        (((self.word64() >> 32) * limit as u64) >> 32) as usize
     }
 
     pub fn between(&mut self, low: usize, high: usize) -> usize {

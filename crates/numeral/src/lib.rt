@@ -2,7 +2,8 @@
 ghost use mathlib.Core.Path.{_≡_};
 ghost use Prim.Native.Nat.{_+_, _-_, _≤_, _<_, min};
 ghost use lib.ListN.{length};
-ghost use Rattle.numeral.specs.Numeral.{value as valueOf, most, wholeNumber, splitAt, exponentAt, f32Of, f32At, i32At, wordOfF32, wordOfI32, hexAt, Split};
+ghost use lib.Ieee.{binary32, toBits};
+ghost use Rattle.numeral.specs.Numeral.{value as valueOf, most, wholeNumber, upTo, wordOfI32, i32At, hexAt, Split, exponentAt, floatOf, wordOfF32, f32Of, f32At};
 
 // What a field holds: no number, a numeral that is too long with the place of its first byte, or the word of a number.
 pub enum Numeral {
@@ -33,7 +34,10 @@ fn value(text: &[u8], radix: u8, from: usize, to: usize, start: u64) -> u64
     let mut i = from;
     let mut a = start;
     while i < to {
-        a = least(1000000000000000000, a * wide(radix) + wide(scan::digit_of(text[i])));
+        a = least(
+            1000000000000000000,
+            a * wide(radix) + wide(scan::digit_of(text[i])),
+        );
         i += 1;
     }
     a
@@ -65,7 +69,12 @@ pub fn i32_at(text: &[u8], p: usize, q: usize) -> Numeral
 {
     let a = scan::trim_start(text, p, q);
     let b = scan::trim_end(text, a, q);
-    let v = whole_number(text, 10, scan::past(text, scan::Class::Either(43, 45), a, b), b);
+    let v = whole_number(
+        text,
+        10,
+        scan::past(text, scan::Class::Either(43, 45), a, b),
+        b,
+    );
     if scan::past(text, scan::Class::Is(45), a, b) == a {
         return up_to(v, 2147483647);
     }
@@ -79,9 +88,13 @@ pub fn i32_at(text: &[u8], p: usize, q: usize) -> Numeral
 }
 
 fn up_to(v: u64, limit: u32) -> Numeral
-    ensures { λ r. ⌜ r ≡ Rattle.numeral.specs.Numeral.upTo v limit ⌝ }
+    ensures { λ r. ⌜ r ≡ upTo v limit ⌝ }
 {
-    if v <= limit as u64 { Numeral::Word(v as u32) } else { Numeral::No }
+    if v <= limit as u64 {
+        Numeral::Word(v as u32)
+    } else {
+        Numeral::No
+    }
 }
 
 // A hexadecimal number that fills the text between two places, as Rust's `u32::from_str_radix` reads it.
@@ -89,7 +102,10 @@ pub fn hex_at(text: &[u8], a: usize, b: usize) -> Numeral
     requires { ⌜ (a ≤ b) × (b ≤ length (now text)) ⌝ }
     ensures { λ r. ⌜ r ≡ hexAt (now (text .entry)) a b ⌝ }
 {
-    up_to(whole_number(text, 16, scan::past(text, scan::Class::Is(43), a, b), b), 4294967295)
+    up_to(
+        whole_number(text, 16, scan::past(text, scan::Class::Is(43), a, b), b),
+        4294967295,
+    )
 }
 
 // The digits of a numeral that starts at a.
@@ -101,7 +117,12 @@ fn decimal_at(text: &[u8], a: usize, b: usize) -> Decimal
     let whole = scan::span(text, scan::Class::Digit(10), from, b);
     let fraction = scan::past(text, scan::Class::Is(46), whole, b);
     let end = scan::span(text, scan::Class::Digit(10), fraction, b);
-    Decimal { from, whole, fraction, end }
+    Decimal {
+        from,
+        whole,
+        fraction,
+        end,
+    }
 }
 
 // Whether an exponent fills the text from i on.
@@ -121,11 +142,17 @@ fn exponent_at(text: &[u8], i: usize, b: usize) -> bool
 
 // The word of a numeral that starts at a.
 fn decimal_word(text: &[u8], a: usize, b: usize, d: Decimal) -> u32
-    requires { ⌜ (a ≤ b) × (b ≤ length (now text)) × Split (now text) a b d × (d .whole ≤ d .from + 9) × (d .end ≤ d .fraction + 9) ⌝ }
-    ensures { λ r. ⌜ Numeral.Word r ≡ wordOfF32 (f32Of (now (text .entry)) a b) ⌝ }
+    requires { ⌜ (a ≤ b) × (b ≤ length (now text)) × Split (now text) a b d × (d .whole - d .from ≤ 9) × (d .end - d .fraction ≤ 9) ⌝ }
+    ensures { λ r. ⌜ r ≡ toBits binary32 (floatOf (now (text .entry)) a b d) ⌝ }
 {
     let negative = a < scan::past(text, scan::Class::Is(45), a, b);
-    let digits = value(text, 10, d.fraction, d.end, value(text, 10, d.from, d.whole, 0));
+    let digits = value(
+        text,
+        10,
+        d.fraction,
+        d.end,
+        value(text, 10, d.from, d.whole, 0),
+    );
     decimal::decimal_word(negative, digits, (d.end - d.fraction) as u32)
 }
 
@@ -135,7 +162,7 @@ fn f32_of(text: &[u8], a: usize, b: usize) -> Numeral
     ensures { λ r. ⌜ r ≡ wordOfF32 (f32Of (now (text .entry)) a b) ⌝ }
 {
     let d = decimal_at(text, a, b);
-    if d.whole == d.from && d.end == d.fraction {
+    if d.whole - d.from + (d.end - d.fraction) == 0 {
         return Numeral::No;
     }
     if d.end < b {
@@ -144,7 +171,10 @@ fn f32_of(text: &[u8], a: usize, b: usize) -> Numeral
         }
         return Numeral::No;
     }
-    if d.whole > d.from + 9 || d.end > d.fraction + 9 {
+    if d.whole - d.from > 9 {
+        return Numeral::TooLong(a);
+    }
+    if d.end - d.fraction > 9 {
         return Numeral::TooLong(a);
     }
     Numeral::Word(decimal_word(text, a, b, d))

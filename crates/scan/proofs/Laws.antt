@@ -129,6 +129,13 @@ module _ (width : List ℕ → ℕ → ℕ → ℕ) (fits : (s : List ℕ) (i e 
       (λ (z : ¬ (width s i e ≡ 0)). rw (ne-eqb (width s i e) 0 z) (skip-fuel s e n m (i + width s i e) (omega arith) (omega arith)))
       (zero-or (width s i e))
 
+  pub skip-low : (s : List ℕ) (e n i : ℕ) → i ≤ skip width s e n i
+  unfolding skip
+  skip-low s e zero i = le-refl i
+  skip-low s e (suc n) i =
+      let h : i + width s i e ≤ skip width s e n (i + width s i e) = skip-low s e n (i + width s i e) in
+      picked (λ j. i ≤ j) (eqb (width s i e) 0) i (skip width s e n (i + width s i e)) (le-refl i) (omega arith)
+
   pub skip-stop : (s : List ℕ) (i e w : ℕ) → w ≡ width s i e → w ≡ 0 → skipTo width s i e ≡ i
   unfolding skip
   skip-stop s i e w q z = go (e - i)

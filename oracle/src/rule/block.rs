@@ -419,7 +419,10 @@ mod tests {
         assert_eq!(place(r"\pos(x,1e5)"), Some(7));
         assert_eq!(place(r"\pos(1,2,1e5)"), Some(9));
         assert_eq!(place(r"\clip(1,2,3, +1e5)"), Some(13));
-        assert_eq!(place(r"\clip(1,2,1e5)\fad(1e2,5)\foo1e2\t(x,1e2,\b1)"), None);
+        assert_eq!(
+            place(r"\clip(1,2,1e5)\fad(1e2,5)\foo1e2\t(x,1e2,\b1)"),
+            None
+        );
         assert_eq!(place(r"\t(1,1e2)"), Some(5));
         assert_eq!(place(&format!("{}1e5", "\\t(".repeat(9))), None);
     }

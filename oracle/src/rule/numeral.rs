@@ -11,7 +11,9 @@ pub fn trim(text: &[u8], from: usize, to: usize) -> (usize, usize) {
 }
 
 pub fn trim_end(text: &[u8], from: usize, to: usize) -> usize {
-    (from..to).rfind(|&i| !is_blank(text[i])).map_or(from, |last| last + 1)
+    (from..to)
+        .rfind(|&i| !is_blank(text[i]))
+        .map_or(from, |last| last + 1)
 }
 
 #[derive(Clone, Copy, Debug, PartialEq)]
@@ -77,10 +79,28 @@ mod tests {
         assert_eq!(numeral("-.5"), bits(-0.5));
         assert_eq!(numeral("+1."), bits(1.0));
         assert_eq!(numeral("999999999.999999999"), bits(1e9));
-        for none in ["", ".", "+", "1e", "e5", "--1", "1 2", "1e5x", "12345678901x", "in"] {
+        for none in [
+            "",
+            ".",
+            "+",
+            "1e",
+            "e5",
+            "--1",
+            "1 2",
+            "1e5x",
+            "12345678901x",
+            "in",
+        ] {
             assert_eq!(numeral(none), Numeral::None, "{none}");
         }
-        for long in ["1000000000", "0000000001", "1.0000000000", "1e5", "+.5E-3", "1e999"] {
+        for long in [
+            "1000000000",
+            "0000000001",
+            "1.0000000000",
+            "1e5",
+            "+.5E-3",
+            "1e999",
+        ] {
             assert_eq!(numeral(long), Numeral::TooLong, "{long}");
         }
         for other in ["nan", "+NaN", "-inf", "InFiNiTy"] {

@@ -18,7 +18,9 @@ pub fn text(text: &[u8]) -> Option<u64> {
     if text.len() > MOST_BYTES {
         return Some(refused(1, 0));
     }
-    text.iter().position(|&byte| byte >= 128).map(|place| refused(2, place))
+    text.iter()
+        .position(|&byte| byte >= 128)
+        .map(|place| refused(2, place))
 }
 
 /// Refusal 6.

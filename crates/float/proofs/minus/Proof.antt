@@ -1,21 +1,27 @@
-use Rattle.float.proofs.Signed.{minus-fits, minus-back}
+use mathlib.Core.Path.{sym, ap, _∙_}
+use Prim.Native.Nat.{ℕ}
+use native.Mathlib.Omega.{arith}
+use lib.IntN.{pos, negℤ}
+use mir.Facts.{toZ-ofZ}
 use borrow.Author.Needs.{needs}
+use Rattle.float.proofs.Words.{minus-is}
 use Rattle.float.proofs.minus.Statement.{statement}
 use Rattle.float.proofs.minus.Tie as tie
-use Rattle.float.proofs.minus.Reads as reads
-use Rattle.float.proofs.minus.Lts as lts
 
--- src/lib.rt:82:10
-cast-result : tie.Need-cast-result
-cast-result c = search needs
+sub-of-word : tie.Need-sub-of-word
+sub-of-word c = search needs
 
--- src/lib.rt:82:5
-sub-result : tie.Need-sub-result
-sub-result c = minus-fits (c .args .n) (c .pre)
+cast-of-word : tie.Need-cast-of-word
+cast-of-word c = search needs
 
--- src/lib.rt:78:1
+of-word-requires : tie.Need-of-word-requires
+of-word-requires c κs = search needs
+
 returns : tie.Need-returns
-returns c = minus-back (c .args .n) (c .pre)
+returns c = sym (ap (λ (n : ℕ). negℤ (pos n)) (c .if1 .taken))
+
+returns-2 : tie.Need-returns-2
+returns-2 c = toZ-ofZ (record { sfits = c .of-word .ok }) ∙ c .of-word .ensures ∙ minus-is (c .before .before .args .n) (omega (arith, c .before .if1 .left)) (c .before .before .pre)
 
 pub minus-spec : {M : Type 1} → statement M
-minus-spec = tie.close (tie.spec cast-result sub-result returns)
+minus-spec = tie.close (tie.spec sub-of-word cast-of-word of-word-requires returns returns-2)

@@ -1,80 +1,65 @@
-use Rattle.float.proofs.Signed.{read-back}
-use mathlib.Core.Path.{_≡_, refl, sym, ap, _∙_, subst}
-use Prim.Native.Nat.{ℕ, _+_, _-_, _*_, _/_, _%_, _^_, _≤_, _<_}
+use mathlib.Core.Path.{ap, _∙_}
+use Prim.Native.Nat.{ℕ, _+_, _/_, min}
 use native.Mathlib.Omega.{arith}
-use mathlib.Core.Bool.{Bool, true, false, not, _&&_}
 use lib.Dec.{T}
-use lib.IntN.{ℤ, pos, negℤ}
+use lib.IntN.{pos, negℤ}
+use lib.Ieee.{lt}
 use mir.Syntax.{w32}
-use mir.Facts.{toZ-pos}
-use lib.Ieee.{Float, binary32, neg, lt, le, ofBits}
-use lib.Ieee.Positive.{num, den, positive}
-use Rattle.decimal.proofs.Law.{plus-zero}
-use Rattle.float.specs.Words.{nought, billion, minusBillion, inReach, roundMag, roundAway}
-use Rattle.float.proofs.Law.{whole-of, round-of, small-halves, small-whole, reach-up, reach-down, above-zero, below-zero, round-above, round-below, cut-above, cut-below, at-zero, billion-is, minus-billion-is, out-of-reach, no-nan-bits, byte-top-is, byte-top, byte-mid, byte-low}
+use mir.Facts.{toZ-pos, toZ-ofZ}
 use borrow.Author.Needs.{needs}
+use Rattle.float.specs.Float.{zero}
+use Rattle.float.proofs.Sign.{is-above, is-below, not-above, not-below}
+use Rattle.float.proofs.Law.{flipped, round-above, round-below, round-zero}
 use Rattle.float.proofs.round_away.Statement.{statement}
 use Rattle.float.proofs.round_away.Tie as tie
-use Rattle.float.proofs.round_away.Reads as reads
-use Rattle.float.proofs.round_away.Lts as lts
-use Rattle.float.proofs.halves.Reads as halves-reads
-use Rattle.float.proofs.minus.Reads as minus-reads
 
-above : (c : tie.Then1) → T (positive (c .before .args .x))
-above c = above-zero (c .before .args .x) (subst (λ (z : Float). T (lt z (c .before .args .x))) plus-zero (subst T (sym (c .if1 .taken)) tt)) (reach-up (c .before .args .x) (c .before .pre))
+above : (c : tie.Then1) → T (lt zero (c .before .args .x))
+above c = is-above (c .before .args .x) (c .if1 .taken)
 
-below : (c : tie.Then2) → T (positive (neg (c .before .before .args .x)))
-below c = let s = c .before .before in below-zero (s .args .x) (subst (λ (z : Float). T (lt (s .args .x) z)) plus-zero (subst T (sym (c .if2 .taken)) tt)) (s .pre)
+below : (c : tie.Then2) → T (lt (c .before .before .args .x) zero)
+below c = is-below (c .before .before .args .x) (c .if2 .taken)
 
--- src/lib.rt:109:11
 halves-requires : tie.Need-halves-requires
-halves-requires c κs = (above c, reach-up (c .before .args .x) (c .before .pre))
+halves-requires c κs = above c
 
--- src/lib.rt:109:11
-add-result : tie.Need-add-result
-add-result c = search needs
+add-least : tie.Need-add-least
+add-least c = search needs
 
--- src/lib.rt:109:9
+least-requires : tie.Need-least-requires
+least-requires c κs = search needs
+
 cast-result : tie.Need-cast-result
 cast-result c = search needs
 
--- src/lib.rt:111:16
 halves-requires-2 : tie.Need-halves-requires-2
-halves-requires-2 c κs = (below c, reach-down (c .before .before .args .x) (below c) (c .before .before .pre))
+halves-requires-2 c κs = flipped (c .before .before .args .x) (below c)
 
--- src/lib.rt:111:16
 add-minus : tie.Need-add-minus
 add-minus c = search needs
 
--- src/lib.rt:111:9
 minus-requires : tie.Need-minus-requires
 minus-requires c κs = search needs
 
--- src/lib.rt:104:1
 returns : tie.Need-returns
 returns c =
-    let s = c .before .before in
-    let x = s .args .x in
-    toZ-pos w32 (omega (arith, c .halves .ensures .1)) ∙ ap (λ (h : ℕ). pos ((h + 1) / 2)) (c .halves .ensures .0) ∙ ap pos (round-of x) ∙ round-above x (above (c .before))
+    toZ-pos w32 (omega (arith, c .least .ensures)) ∙ ap pos (c .least .ensures) ∙ ap (λ (h : ℕ). pos (min ((h + 1) / 2) 2147483647)) (c .before .halves .ensures .0)
+    ∙ round-above (c .before .before .before .args .x) (above (c .before .before))
 
--- src/lib.rt:104:1
 returns-2 : tie.Need-returns-2
 returns-2 c =
-    let s = c .before .before .before .before in
-    let x = s .args .x in
-    let p = below (c .before .before) in
-    read-back (c .minus .result) ((c .before .halves2 .result + 1) / 2) (omega (arith, c .before .halves2 .ensures .1)) (c .minus .ensures) ∙ ap (λ (h : ℕ). negℤ (pos ((h + 1) / 2))) (c .before .halves2 .ensures .0) ∙ ap (λ (h : ℕ). negℤ (pos h)) (round-of (neg x)) ∙ round-below x p
+    toZ-ofZ (record { sfits = c .minus .ok }) ∙ c .minus .ensures ∙ ap (λ (h : ℕ). negℤ (pos ((h + 1) / 2))) (c .before .halves2 .ensures .0)
+    ∙ round-below (c .before .before .before .before .args .x) (below (c .before .before))
 
--- src/lib.rt:104:1
 returns-3 : tie.Need-returns-3
-returns-3 c = let x = c .before .before .args .x in at-zero x (ap (λ (z : Float). lt z x) (sym plus-zero) ∙ c .before .if1 .left) (ap (λ (z : Float). lt x z) (sym plus-zero) ∙ c .if2 .left) (c .before .before .pre) .0
+returns-3 c = let x = c .before .before .args .x in round-zero x (not-above x (c .before .if1 .left)) (not-below x (c .if2 .left))
 
 pub round-away-spec : {M : Type 1} → statement M
 round-away-spec =
     tie.close
     (tie.spec
     halves-requires
-    add-result
+    add-least
+    least-requires
     cast-result
     halves-requires-2
     add-minus

@@ -1,52 +1,31 @@
-use mathlib.Core.Path.{_≡_, refl, sym, ap, _∙_, subst}
-use Prim.Native.Nat.{ℕ, _+_, _-_, _*_, _/_, _%_, _^_, _≤_, _<_}
-use native.Mathlib.Omega.{arith}
-use mathlib.Core.Bool.{Bool, true, false, not, _&&_}
-use lib.Dec.{T}
-use lib.IntN.{ℤ, pos, negℤ}
-use mir.Syntax.{w32}
-use mir.Facts.{toZ-pos}
-use lib.Ieee.{Float, binary32, neg, lt, le, ofBits, toUnsigned}
-use lib.Ieee.Positive.{num, den, positive}
-use Rattle.decimal.proofs.Law.{plus-zero}
-use Rattle.float.specs.Words.{nought, billion, minusBillion, inReach, roundMag, roundAway}
-use Rattle.float.proofs.Law.{whole-of, round-of, small-halves, small-whole, reach-up, reach-down, above-zero, below-zero, round-above, round-below, cut-above, cut-below, at-zero, billion-is, minus-billion-is, out-of-reach, no-nan-bits, byte-top-is, byte-top, byte-mid, byte-low, round-byte-mid, round-byte-top, round-byte-low}
+use mathlib.Core.Path.{ap, _∙_}
+use Prim.Native.Nat.{ℕ, _+_, _/_, min}
 use borrow.Author.Needs.{needs}
+use Rattle.float.proofs.Sign.{is-above, not-above}
+use Rattle.float.proofs.Law.{round-byte-above, round-byte-low}
 use Rattle.float.proofs.round_byte.Statement.{statement}
 use Rattle.float.proofs.round_byte.Tie as tie
-use Rattle.float.proofs.round_byte.Reads as reads
-use Rattle.float.proofs.round_byte.Lts as lts
-use Rattle.float.proofs.halves.Reads as halves-reads
 
-mid : (c : tie.Then2) → T (positive (c .before .before .args .x)) × T (le (c .before .before .args .x) billion) × (num (c .before .before .args .x) / den (c .before .before .args .x) < 255) × (num (c .before .before .args .x) / den (c .before .before .args .x) ≡ toUnsigned 8 (c .before .before .args .x))
-mid c =
-    let x = c .before .before .args .x in
-    byte-mid x (subst (λ (z : Float). T (lt z x)) plus-zero (subst T (sym (c .if2 .taken)) tt)) (ap (λ (z : Float). le z x) (sym byte-top-is) ∙ c .before .if1 .left)
-
--- src/lib.rt:151:11
 halves-requires : tie.Need-halves-requires
-halves-requires c κs = (mid c .0, mid c .1)
+halves-requires c κs = is-above (c .before .args .x) (c .if1 .taken)
 
--- src/lib.rt:151:11
-add-result : tie.Need-add-result
-add-result c = search needs
+add-least : tie.Need-add-least
+add-least c = search needs
 
--- src/lib.rt:151:9
+least-requires : tie.Need-least-requires
+least-requires c κs = search needs
+
 cast-result : tie.Need-cast-result
-cast-result c = let x = c .before .before .before .args .x in record { fits = omega (arith, mid (c .before) .2, whole-of x, c .halves .ensures .0) }
+cast-result c = search needs
 
--- src/lib.rt:145:1
 returns : tie.Need-returns
-returns c = round-byte-top (c .before .args .x) (subst (λ (z : Float). T (le z (c .before .args .x))) byte-top-is (subst T (sym (c .if1 .taken)) tt))
+returns c =
+    let s = c .before .before in
+    let x = s .before .args .x in
+    c .least .ensures ∙ ap (λ (h : ℕ). min ((h + 1) / 2) 255) (c .before .halves .ensures .0) ∙ round-byte-above x (is-above x (s .if1 .taken))
 
--- src/lib.rt:145:1
 returns-2 : tie.Need-returns-2
-returns-2 c = let x = c .before .before .before .args .x in ap (λ (h : ℕ). (h + 1) / 2) (c .halves .ensures .0) ∙ round-of x ∙ round-byte-mid x (mid (c .before) .0) (mid (c .before) .2)
-
--- src/lib.rt:145:1
-returns-3 : tie.Need-returns-3
-returns-3 c = let x = c .before .before .args .x in round-byte-low x (ap (λ (z : Float). lt z x) (sym plus-zero) ∙ c .if2 .left)
+returns-2 c = let x = c .before .args .x in round-byte-low x (not-above x (c .if1 .left))
 
 pub round-byte-spec : {M : Type 1} → statement M
-round-byte-spec =
-    tie.close (tie.spec halves-requires add-result cast-result returns returns-2 returns-3)
+round-byte-spec = tie.close (tie.spec halves-requires add-least least-requires cast-result returns returns-2)

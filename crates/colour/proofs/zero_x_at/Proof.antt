@@ -1,0 +1,50 @@
+use borrow.Author.Tests.{le-leb, lt-leb, eq-eqb, ne-eqb}
+use Rattle.colour.specs.Colour.{zeroXAt}
+use borrow.Author.Needs.{needs}
+use Rattle.colour.proofs.zero_x_at.Statement.{statement}
+use Rattle.colour.proofs.zero_x_at.Tie as tie
+
+sub-if1 : tie.Need-sub-if1
+sub-if1 c = search needs
+
+shared-slice-read-if2 : tie.Need-shared-slice-read-if2
+shared-slice-read-if2 c = search needs
+
+add-if3 : tie.Need-add-if3
+add-if3 c = search needs
+
+shared-slice-read-if3 : tie.Need-shared-slice-read-if3
+shared-slice-read-if3 c = search needs
+
+returns : tie.Need-returns
+unfolding zeroXAt
+returns c =
+    let f = c .before .before .before .before .if1 .taken in
+    (rw (le-leb _ _ f, eq-eqb _ _ (c .before .before .if2 .taken), eq-eqb _ _ (c .if3 .taken)), search needs)
+
+returns-2 : tie.Need-returns-2
+unfolding zeroXAt
+returns-2 c =
+    let f = c .before .before .before .before .if1 .taken in
+    (rw (le-leb _ _ f, eq-eqb _ _ (c .before .before .if2 .taken), ne-eqb _ _ (c .if3 .left)), search needs)
+
+returns-3 : tie.Need-returns-3
+unfolding zeroXAt
+returns-3 c = (rw (le-leb _ _ (c .before .before .if1 .taken), ne-eqb _ _ (c .if2 .left)), search needs)
+
+returns-4 : tie.Need-returns-4
+unfolding zeroXAt
+returns-4 c = (rw (lt-leb _ _ (c .if1 .left)), search needs)
+
+pub zero-x-at-spec : {M : Type 1} → statement M
+zero-x-at-spec =
+    tie.close
+    (tie.spec
+    sub-if1
+    shared-slice-read-if2
+    add-if3
+    shared-slice-read-if3
+    returns
+    returns-2
+    returns-3
+    returns-4)

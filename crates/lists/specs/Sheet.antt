@@ -1,0 +1,44 @@
+-- Worked examples, by computation: a list and what it holds.
+use mathlib.Core.Path.{_≡_, refl}
+use mathlib.Core.List.{List, [], _∷_, map}
+use mathlib.Core.Bool.{Bool, true, false}
+use Prim.Native.Nat.{ℕ}
+use Prim.Native.String.{String}
+use lib.Ieee.{round, toBits}
+use lib.ListN.{length}
+use Rattle.scan.specs.Scan.{span, skip, skipBack, blankAt, blankBefore}
+use Rattle.numeral.specs.Numeral.{value, wholeNumber, i32Of, splitAt, exponentAt, floatOf, f32Of}
+use Rattle.numeral.specs.Sheet.{bytes}
+use Rattle.lists.specs.declared.Numbers.{Numbers}
+use Rattle.lists.specs.declared.Found.{Found}
+use Rattle.lists.specs.declared.Found.the-variants.{Nowhere, At}
+use Rattle.lists.specs.Lists.{split, items, itemsTo, allWords, filled, firstLong, numbersOf}
+
+-- what a list holds
+abbrev pub holds : Bool → ℕ → List ℕ → Found → Numbers
+holds all count words long = record { all = all; count = count; words = words; «too_long» = long }
+
+-- whether each list, read whole, holds what its row says
+abbrev pub Holds : Bool → List (String × Numbers) → Type 0
+Holds whole rows = map (λ (r : String × Numbers). numbersOf (itemsTo whole (bytes (r .0)) 0 (length (bytes (r .0))))) rows ≡ map (λ (r : String × Numbers). r .1) rows
+
+pub floats : Holds false (
+    ("1,2.5", holds true 2 (0x3F800000 ∷ 0x40200000 ∷ 0 ∷ 0 ∷ 0 ∷ 0 ∷ 0 ∷ []) Nowhere) ∷
+    ("1,,2", holds false 3 (0x3F800000 ∷ 0 ∷ 0x40000000 ∷ 0 ∷ 0 ∷ 0 ∷ 0 ∷ []) Nowhere) ∷
+    ("1,", holds false 2 (0x3F800000 ∷ 0 ∷ 0 ∷ 0 ∷ 0 ∷ 0 ∷ 0 ∷ []) Nowhere) ∷
+    ("", holds false 1 (0 ∷ 0 ∷ 0 ∷ 0 ∷ 0 ∷ 0 ∷ 0 ∷ []) Nowhere) ∷
+    ("x,1e5", holds false 2 (0 ∷ 0 ∷ 0 ∷ 0 ∷ 0 ∷ 0 ∷ 0 ∷ []) (At 2)) ∷
+    ("1, 1e5,1e6", holds false 3 (0x3F800000 ∷ 0 ∷ 0 ∷ 0 ∷ 0 ∷ 0 ∷ 0 ∷ []) (At 3)) ∷
+    ("0,-0,.5,1.,2,3,4,8", holds true 8 (0 ∷ 0x80000000 ∷ 0x3F000000 ∷ 0x3F800000 ∷ 0x40000000 ∷ 0x40400000 ∷ 0x40800000 ∷ []) Nowhere) ∷
+    [])
+unfolding round toBits span skip skipBack blankAt blankBefore value splitAt exponentAt floatOf f32Of split items allWords filled firstLong
+floats = refl
+
+pub integers : Holds true (
+    ("+1, -2 ,3", holds true 3 (1 ∷ 0xFFFFFFFE ∷ 3 ∷ 0 ∷ 0 ∷ 0 ∷ 0 ∷ []) Nowhere) ∷
+    ("1,2.5", holds false 2 (1 ∷ 0 ∷ 0 ∷ 0 ∷ 0 ∷ 0 ∷ 0 ∷ []) Nowhere) ∷
+    ("1e5,7", holds false 2 (0 ∷ 7 ∷ 0 ∷ 0 ∷ 0 ∷ 0 ∷ 0 ∷ []) Nowhere) ∷
+    ("1,2,3,4,5,6,7,x", holds false 8 (1 ∷ 2 ∷ 3 ∷ 4 ∷ 5 ∷ 6 ∷ 7 ∷ []) Nowhere) ∷
+    [])
+unfolding span skip skipBack blankAt blankBefore value wholeNumber i32Of split items allWords filled firstLong
+integers = refl

@@ -1,0 +1,218 @@
+-- Laws of digits and of what they write.
+use mathlib.Core.Path.{_≡_, refl, sym, _∙_}
+use mathlib.Core.List.{List}
+use mathlib.Core.Bool.{Bool, true, false}
+use mathlib.Core.Logic.{_⊎_, ⊎-elim}
+use Prim.Native.Nat.{ℕ, zero, suc, _+_, _-_, _*_, _^_, _≤_, _<_, min}
+use native.Mathlib.Omega.{arith}
+use native.Mathlib.Numerals.{add-one}
+use native.Mathlib.Nat.{le-refl, le-trans, le-mul-of-pos-right, min-eq-left, min-eq-right, min-le-right, mul-le-mul-right, pow-zero, pow-succ', pow-le-pow-right, mul-assoc, add-mul, one-mul, lt-of-lt-of-le, lt-of-le-of-lt, le-of-lt, add-le-add, mul-le-mul, mul-le-mul-left}
+use lib.ListN.{getD}
+use lib.Dec.{ltb, leb, lit<, lit≤}
+use lib.IntN.{pos, negℤ}
+use borrow.Author.Tests.{eq-eqb, ne-eqb, lt-ltb, le-ltb, le-leb, lt-leb, ltb-true}
+use Rattle.scan.specs.Scan.{pick, digitOf, inClass, span, spanTo, past}
+use Rattle.scan.specs.declared.Class.the-variants.{Digit}
+use Rattle.scan.proofs.Laws.{le-or-lt, more, none, span-low, digit-below, digit-decimal, digit-between, digit-upper, digit-middle, digit-lower, digit-above}
+use Rattle.float.specs.Words.{toWord}
+use Rattle.numeral.specs.declared.Numeral.the-variants.{No, Word}
+use Rattle.numeral.specs.declared.Decimal.{Decimal}
+use Rattle.numeral.specs.Numeral.{isDigit, isSign, isMinus, isPlus, value, most, wholeNumber, wordOfI32, I32, i32Of, upTo, hexAt, splitAt, exponentAt, F32, floatOf, f32Of}
+
+-- a digit's value, or 16
+pub digit-most : (b : ℕ) → digitOf b ≤ 16
+digit-most b =
+    ⊎-elim (λ (h : 103 ≤ b). rw (← digit-above b h) (omega arith))
+    (λ (h : b < 103). ⊎-elim (λ (k : 97 ≤ b). rw (← digit-lower b k (omega arith)) (omega arith))
+    (λ (k : b < 97). ⊎-elim (λ (l : 71 ≤ b). rw (← digit-middle b l k) (omega arith))
+    (λ (l : b < 71). ⊎-elim (λ (m : 65 ≤ b). rw (← digit-upper b m (omega arith)) (omega arith))
+    (λ (m : b < 65). ⊎-elim (λ (n : 58 ≤ b). rw (← digit-between b n m) (omega arith))
+    (λ (n : b < 58). ⊎-elim (λ (o : 48 ≤ b). rw (← digit-decimal b o (omega arith)) (omega arith))
+    (λ (o : b < 48). rw (← digit-below b o) (omega arith))
+    (le-or-lt 48 b)) (le-or-lt 58 b)) (le-or-lt 65 b)) (le-or-lt 71 b)) (le-or-lt 97 b)) (le-or-lt 103 b)
+
+-- one digit more is one power more
+one-more : (radix p a d : ℕ) {v : ℕ} → d < radix → v < (a * radix + d + 1) * p → v < (a + 1) * (radix * p)
+one-more radix p a d h k =
+    let l : a * radix + d + 1 ≤ (a + 1) * radix = rw (add-mul a 1 radix, one-mul radix) (omega arith) in
+    rw (← mul-assoc (a + 1) radix p) (lt-of-lt-of-le k (mul-le-mul-right p l))
+
+module _ (radix : ℕ) (s : List ℕ) where
+  -- one step of a value
+  pub value-end : (i e a : ℕ) → e ≤ i → value radix s (e - i) i a ≡ a
+  unfolding value
+  value-end i e a h = rw (none i e h)
+
+  value-go : (i e a : ℕ) → i < e → value radix s (e - i) i a ≡ value radix s (e - (i + 1)) (i + 1) (a * radix + digitOf (getD s i 0))
+  unfolding value
+  value-go i e a h = rw (more i e h)
+
+  -- more digits make no less
+  value-grows : 0 < radix → (n i a : ℕ) → a ≤ value radix s n i a
+  unfolding value
+  value-grows r zero i a = le-refl a
+  value-grows r (suc n) i a =
+      let d = digitOf (getD s i 0) in
+      let m : a ≤ a * radix = le-mul-of-pos-right a r in
+      let g : a * radix + d ≤ value radix s n (i + 1) (a * radix + d) = value-grows r n (i + 1) (a * radix + d) in
+      omega arith
+
+  -- a value that is capped on the way is capped at the end
+  value-capped : 0 < radix → (m n i a : ℕ) → min m (value radix s n i (min m a)) ≡ min m (value radix s n i a)
+  value-capped r m n i a =
+      ⊎-elim
+      (λ (h : a ≤ m). rw (min-eq-right h))
+      (λ (h : m < a).
+      let l : m ≤ a = omega arith in
+      let p : m ≤ value radix s n i a = le-trans l (value-grows r n i a) in
+      rw (min-eq-left l, min-eq-left (value-grows r n i m), min-eq-left p))
+      (le-or-lt a m)
+
+  pub value-turn : 0 < radix → (m i e a b : ℕ) → i < e → b ≡ min m (a * radix + digitOf (getD s i 0)) → min m (value radix s (e - i) i a) ≡ min m (value radix s (e - (i + 1)) (i + 1) b)
+  value-turn r m i e a b h q = rw (q, value-capped r m (e - (i + 1)) (i + 1) (a * radix + digitOf (getD s i 0)), value-go i e a h)
+
+  -- the digits of a span write less than the radix to the power of their number
+  pub value-below : 0 < radix → (n i a j : ℕ) → j ≡ span (inClass (Digit radix)) s n i → value radix s (j - i) i a < (a + 1) * radix ^ (j - i)
+  unfolding span
+  value-below r zero i a j q =
+      let z : j - i ≡ 0 = omega arith in
+      rw (value-end i j a (omega arith), z, pow-zero) (omega arith)
+  value-below r (suc n) i a j q = go (ltb (digitOf (getD s i 0)) radix) refl (λ k. value-below r n (i + 1) (a * radix + digitOf (getD s i 0)) j k)
+    where
+      d : ℕ
+      d = digitOf (getD s i 0)
+
+      go : (t : Bool) → ltb d radix ≡ t → (j ≡ span (inClass (Digit radix)) s n (i + 1) → value radix s (j - (i + 1)) (i + 1) (a * radix + d) < (a * radix + d + 1) * radix ^ (j - (i + 1))) → value radix s (j - i) i a < (a + 1) * radix ^ (j - i)
+      go true w f =
+          let k : j ≡ span (inClass (Digit radix)) s n (i + 1) = rw w at q in
+          let l : i + 1 ≤ j = rw k (span-low (inClass (Digit radix)) s n (i + 1)) in
+          let h : i < j = omega arith in
+          rw (value-go i j a h, more i j h, pow-succ') (one-more radix (radix ^ (j - (i + 1))) a d (ltb-true d radix w) (f k))
+      go false w f =
+          let k : j ≡ i = rw w at q in
+          let z : j - i ≡ 0 = omega arith in
+          rw (value-end i j a (omega arith), z, pow-zero) (omega arith)
+
+-- one more digit behind a capped value fits 64 bits
+pub step-fits : (a radix d : ℕ) → a ≤ most → radix ≤ 16 → d ≤ 16 → a * radix + d < 2 ^ 64
+step-fits a radix d h k l = lt-of-le-of-lt (add-le-add (mul-le-mul h k) l) (lit< tt)
+
+-- a limit below the cap
+pub up-to-capped : (m w l : ℕ) → l < m → upTo (min m w) l ≡ upTo w l
+up-to-capped m w l h =
+    ⊎-elim
+    (λ (k : w ≤ m). rw (min-eq-right k))
+    (λ (k : m < w).
+    let n : m ≤ w = omega arith in
+    let o : l < w = omega arith in
+    rw (min-eq-left n, lt-leb m l h, lt-leb w l o))
+    (le-or-lt w m)
+
+-- what is below the cap is not capped
+pub uncapped : (m w v : ℕ) → v ≡ min m w → v < m → w ≡ v
+uncapped m w v q h =
+    ⊎-elim
+    (λ (k : w ≤ m). sym (q ∙ min-eq-right k))
+    (λ (k : m < w).
+    let n : m ≤ w = omega arith in
+    let z : v ≡ m = q ∙ min-eq-left n in
+    absurd (omega arith))
+    (le-or-lt w m)
+
+-- hexadecimal by its sign, at i behind a plus, and its size v, capped
+pub hex-is : (s : List ℕ) (a b i v : ℕ) → i ≡ past isPlus s a b → v ≡ min most (wholeNumber 16 s i b) → upTo v 4294967295 ≡ hexAt s a b
+unfolding hexAt
+hex-is s a b i v p q = rw (q, p) (up-to-capped most (wholeNumber 16 s (past isPlus s a b) b) 4294967295 (lit< tt))
+
+-- the words of both signs
+plus-word : (t : Bool) (v : ℕ) → wordOfI32 (pick t (I32.whole (pos v)) I32.none) ≡ pick t (Word v) No
+plus-word true v = refl
+plus-word false v = refl
+
+minus-word : (v : ℕ) → ¬ (v ≡ 0) → toWord (negℤ (pos v)) ≡ 4294967296 - v
+minus-word zero z = absurd (z refl)
+minus-word (suc n) z = refl
+
+-- an i32 by its sign, at j behind a minus, and its size v, capped
+module _ (s : List ℕ) (a b i j v : ℕ) (p : i ≡ past isSign s a b) (m : j ≡ past isMinus s a b) (q : v ≡ min most (wholeNumber 10 s i b)) where
+  pub i32-plus : j ≡ a → upTo v 2147483647 ≡ wordOfI32 (i32Of s a b)
+  unfolding i32Of
+  i32-plus h =
+      rw (← p, ← m, eq-eqb j a h, q, plus-word (leb (wholeNumber 10 s i b) 2147483647) (wholeNumber 10 s i b))
+      (up-to-capped most (wholeNumber 10 s i b) 2147483647 (lit< tt))
+
+  pub i32-zero : ¬ (j ≡ a) → v ≡ 0 → Word 0 ≡ wordOfI32 (i32Of s a b)
+  unfolding i32Of
+  i32-zero h z =
+      let e : wholeNumber 10 s i b ≡ v = uncapped most (wholeNumber 10 s i b) v q (rw z (lit< tt)) in
+      rw (← p, ← m, ne-eqb j a h, e, z)
+
+  pub i32-minus : ¬ (j ≡ a) → ¬ (v ≡ 0) → v ≤ 2147483648 → Word (4294967296 - v) ≡ wordOfI32 (i32Of s a b)
+  unfolding i32Of
+  i32-minus h z l =
+      let e : wholeNumber 10 s i b ≡ v = uncapped most (wholeNumber 10 s i b) v q (lt-of-le-of-lt l (lit< tt)) in
+      rw (← p, ← m, ne-eqb j a h, e, le-leb v 2147483648 l, minus-word v z)
+
+  pub i32-far : ¬ (j ≡ a) → 2147483648 < v → No ≡ wordOfI32 (i32Of s a b)
+  unfolding i32Of
+  i32-far h l =
+      let k : v ≤ wholeNumber 10 s i b = rw q (min-le-right most (wholeNumber 10 s i b)) in
+      rw (← p, ← m, ne-eqb j a h, lt-leb (wholeNumber 10 s i b) 2147483648 (lt-of-lt-of-le l k))
+
+-- a numeral by its digits
+module _ (s : List ℕ) (a b : ℕ) (d : Decimal) (q : d ≡ splitAt s a b) where
+  pub f32-empty : d .whole - d .from + (d .end - d .fraction) ≡ 0 → F32.none ≡ f32Of s a b
+  unfolding f32Of
+  f32-empty h = rw (← q, eq-eqb _ _ h)
+
+  module _ (h : ¬ (d .whole - d .from + (d .end - d .fraction) ≡ 0)) where
+    pub f32-exponent : d .end < b → exponentAt s (d .end) b ≡ true → F32.tooLong a ≡ f32Of s a b
+    unfolding f32Of
+    f32-exponent l e = rw (← q, ne-eqb _ _ h, lt-ltb _ _ l, e)
+
+    pub f32-rest : d .end < b → exponentAt s (d .end) b ≡ false → F32.none ≡ f32Of s a b
+    unfolding f32Of
+    f32-rest l e = rw (← q, ne-eqb _ _ h, lt-ltb _ _ l, e)
+
+    pub f32-long : b ≤ d .end → 9 < d .whole - d .from → F32.tooLong a ≡ f32Of s a b
+    unfolding f32Of
+    f32-long l k = rw (← q, ne-eqb _ _ h, le-ltb _ _ l, lt-leb _ _ k)
+
+    module _ (l : b ≤ d .end) (k : d .whole - d .from ≤ 9) where
+      pub f32-long-fraction : 9 < d .end - d .fraction → F32.tooLong a ≡ f32Of s a b
+      unfolding f32Of
+      f32-long-fraction o = rw (← q, ne-eqb _ _ h, le-ltb _ _ l, le-leb _ _ k, lt-leb _ _ o)
+
+      pub f32-number : d .end - d .fraction ≤ 9 → F32.number (floatOf s a b d) ≡ f32Of s a b
+      unfolding f32Of
+      f32-number o = rw (← q, ne-eqb _ _ h, le-ltb _ _ l, le-leb _ _ k, le-leb _ _ o)
+
+-- the number that the digits of a numeral write
+abbrev pub digitsOf : List ℕ → Decimal → ℕ
+digitsOf s d = value 10 s (d .end - d .fraction) (d .fraction) (value 10 s (d .whole - d .from) (d .from) 0)
+
+-- with at most nine digits on each side of the point
+module _ (s : List ℕ) (a b : ℕ) (d : Decimal) (q : d ≡ splitAt s a b) (n : d .whole - d .from ≤ 9) (m : d .end - d .fraction ≤ 9) where
+  whole-is : d .whole ≡ spanTo isDigit s (d .from) b
+  unfolding splitAt
+  whole-is = rw q
+
+  end-is : d .end ≡ spanTo isDigit s (d .fraction) b
+  unfolding splitAt
+  end-is = rw q
+
+  whole-below : value 10 s (d .whole - d .from) (d .from) 0 < 1000000000
+  whole-below = lt-of-lt-of-le (value-below 10 s (lit< tt) (b - d .from) (d .from) 0 (d .whole) whole-is) (rw (one-mul (10 ^ (d .whole - d .from))) (pow-le-pow-right (lit< tt) n))
+
+  pub digits-below : digitsOf s d < 1000000000 * 10 ^ (d .end - d .fraction)
+  digits-below = lt-of-lt-of-le (value-below 10 s (lit< tt) (b - d .fraction) (d .fraction) (value 10 s (d .whole - d .from) (d .from) 0) (d .end) end-is) (mul-le-mul-right (10 ^ (d .end - d .fraction)) (rw (add-one (value 10 s (d .whole - d .from) (d .from) 0)) whole-below))
+
+  pub digits-small : digitsOf s d < most
+  digits-small = lt-of-lt-of-le digits-below (mul-le-mul-left 1000000000 (pow-le-pow-right (lit< tt) m))
+
+  -- none of it is capped
+  pub digits-are : (u v : ℕ) → u ≡ min most (value 10 s (d .whole - d .from) (d .from) 0) → v ≡ min most (value 10 s (d .end - d .fraction) (d .fraction) u) → v ≡ digitsOf s d
+  digits-are u v p r =
+      let l : value 10 s (d .whole - d .from) (d .from) 0 ≤ most = le-trans (le-of-lt whole-below) (lit≤ tt) in
+      let e : u ≡ value 10 s (d .whole - d .from) (d .from) 0 = p ∙ min-eq-right l in
+      rw (r, e) (min-eq-right (le-of-lt digits-small))

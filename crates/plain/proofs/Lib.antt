@@ -1,0 +1,4 @@
+pub mod Numbers
+pub mod Listed
+pub mod Gives
+pub mod Bridge

@@ -1,0 +1,135 @@
+-- The numbers that a text gives, and what their words say of them.
+use mathlib.Core.Path.{_≡_, refl, sym, ap, _∙_}
+use mathlib.Core.Bool.{Bool, true, false}
+use mathlib.Core.List.{List}
+use mathlib.Core.Logic.{_⊎_, ⊎-elim, inl, inr}
+use Prim.Native.Nat.{ℕ, zero, suc, _+_, _-_, _≤_, _<_}
+use native.Mathlib.Omega.{arith}
+use lib.Dec.{T, leb, ltb, eqb, lit<}
+use lib.IntN.{ℤ, pos, negsuc, negℤ}
+use lib.Ieee.{Float, binary32, fits, toBits, ofBits}
+use lib.Ieee.Bits.{ofBits-toBits}
+use lib.Ieee.Fits.{round-fits}
+use borrow.Author.Tests.{lt-ltb, le-ltb, le-leb, lt-leb, leb-true}
+use Rattle.scan.specs.Scan.{pick, past, trimStart, trimEnd}
+use Rattle.scan.proofs.Laws.{picked, le-or-lt}
+use Rattle.float.specs.Float.{zero as plusZero, toWord}
+use Rattle.numeral.specs.Numeral as Numeral
+use Rattle.numeral.specs.Numeral.{F32, tooLong, number, f32Of, f32At, splitAt, exponentAt, isSign, isMinus, wholeNumber, I32, whole, i32Of, i32At, wordOfF32, wordOfI32}
+use Rattle.lists.specs.Lists.{wordOf}
+use Rattle.tag.specs.Table.{bits}
+use Rattle.plain.specs.Plain.{floatOf, intOf, notBelowZero, byteOf, isFar}
+use Rattle.plain.specs.Coded.{notBelowZeroWord, byteWord, farWord}
+
+-- ---- f32: binary32 holds what a text gives, so its bits give it back
+
+abbrev pub Held : Float → Type 0
+Held x = T (fits binary32 x)
+
+abbrev HeldIn : F32 → Type 0
+HeldIn x = Held (floatOf x)
+
+pub zero-held : Held plusZero
+unfolding fits
+zero-held = tt
+
+module _ (p : ℕ) (x : Float) (h : Held x) where
+  in-picks : (a b c d e : Bool) → HeldIn (pick a F32.none (pick b (pick c (tooLong p) F32.none) (pick d (pick e (number x) (tooLong p)) (tooLong p))))
+  in-picks true b c d e = zero-held
+  in-picks false true true d e = zero-held
+  in-picks false true false d e = zero-held
+  in-picks false false c true true = h
+  in-picks false false c true false = zero-held
+  in-picks false false c false e = zero-held
+
+pub f32-held : (s : List ℕ) (p q : ℕ) → HeldIn (f32At s p q)
+unfolding f32Of Numeral.floatOf
+f32-held s p q =
+    let a = trimStart s p q in
+    go s a (trimEnd s a q)
+  where
+    go : (s : List ℕ) (a b : ℕ) → HeldIn (f32Of s a b)
+    go s a b =
+        let d = splitAt s a b in
+        in-picks a (Numeral.floatOf s a b d) (round-fits binary32 _ _ _) (eqb (d .whole - d .from + (d .end - d .fraction)) 0) (ltb (d .end) b) (exponentAt s (d .end) b) (leb (d .whole - d .from) 9) (leb (d .end - d .fraction) 9)
+
+abbrev pub Back : Float → Type 0
+Back x = ofBits binary32 (bits x) ≡ x
+
+pub f32-back : (s : List ℕ) (p q : ℕ) → Back (floatOf (f32At s p q))
+f32-back s p q = ofBits-toBits binary32 _ (f32-held s p q)
+
+pub zero-back : Back plusZero
+zero-back = ofBits-toBits binary32 _ zero-held
+
+-- where there is none, both count as 0
+pub word-float : (x : F32) → wordOf (wordOfF32 x) ≡ bits (floatOf x)
+unfolding toBits
+word-float F32.none = refl
+word-float (tooLong p) = refl
+word-float (number x) = refl
+
+-- ---- i32: what a text gives is between -2147483648 and 2147483647
+
+abbrev pub Small : ℤ → Type 0
+Small (pos n) = n < 2147483648
+Small (negsuc n) = n < 2147483648
+
+abbrev SmallIn : I32 → Type 0
+SmallIn x = Small (intOf x)
+
+pub zero-small : Small (pos 0)
+zero-small = lit< tt
+
+below : (v : ℕ) (b : Bool) → leb v 2147483647 ≡ b → SmallIn (pick b (whole (pos v)) I32.none)
+below v false e = zero-small
+below v true e = omega (arith, leb-true v 2147483647 e)
+
+above : (v : ℕ) (b : Bool) → leb v 2147483648 ≡ b → SmallIn (pick b (whole (negℤ (pos v))) I32.none)
+above v false e = zero-small
+above zero true e = zero-small
+above (suc v) true e = omega (arith, leb-true (suc v) 2147483648 e)
+
+pub i32-small : (s : List ℕ) (p q : ℕ) → SmallIn (i32At s p q)
+unfolding i32Of
+i32-small s p q =
+    let a = trimStart s p q in
+    go s a (trimEnd s a q)
+  where
+    go : (s : List ℕ) (a b : ℕ) → SmallIn (i32Of s a b)
+    go s a b =
+        let v = wholeNumber 10 s (past isSign s a b) b in
+        picked SmallIn (eqb (past isMinus s a b) a) (pick (leb v 2147483647) (whole (pos v)) I32.none) (pick (leb v 2147483648) (whole (negℤ (pos v))) I32.none) (below v _ refl) (above v _ refl)
+
+pub word-int : (x : I32) → wordOf (wordOfI32 x) ≡ toWord (intOf x)
+unfolding toWord
+word-int I32.none = refl
+word-int (whole z) = refl
+
+-- its word tells whether it is below 0
+pub high : (n : ℕ) → n < 2147483648 → 2147483648 ≤ 4294967296 - suc n
+high n h = omega arith
+
+pub clip-word : (z : ℤ) → Small z → notBelowZeroWord (toWord z) ≡ notBelowZero z
+unfolding toWord
+clip-word (pos n) h = rw (lt-ltb n 2147483648 h)
+clip-word (negsuc n) h = rw (le-ltb _ 2147483648 (high n h))
+
+pub byte-word : (z : ℤ) → Small z → byteWord (toWord z) ≡ byteOf z
+byte-word z h = rw (clip-word z h)
+
+pub far-word : (z : ℤ) → Small z → farWord (toWord z) ≡ isFar z
+unfolding toWord
+far-word (pos n) h = go (le-or-lt n 1000000000)
+  where
+    go : (n ≤ 1000000000) ⊎ (1000000000 < n) → pick (leb n 1000000000) false (leb (suc n) 3294967296) ≡ leb 1000000001 n
+    go (inl l) = rw (le-leb n 1000000000 l, le-ltb 1000000000 n l)
+    go (inr l) = rw (lt-leb n 1000000000 l, lt-ltb 1000000000 n l, lt-ltb n 3294967296 (omega arith))
+far-word (negsuc n) h =
+    ⊎-elim
+    (λ (l : 1000000000 ≤ n). rw (lt-leb _ 1000000000 high, le-leb 1000000000 n l, lt-ltb (4294967296 - suc n) 3294967296 (omega arith)))
+    (λ (l : n < 1000000000). rw (lt-leb _ 1000000000 high, lt-leb 1000000000 n l, le-ltb (4294967296 - suc n) 3294967296 (omega arith)))
+    (le-or-lt 1000000000 n)
+  where
+    high : 1000000000 < 4294967296 - suc n
+    high = omega arith

@@ -1,0 +1,51 @@
+-- One turn of each loop of `power_256`, and its end.
+use mathlib.Core.Path.{_≡_, refl, ap, _∙_}
+use Prim.Native.Nat.{ℕ, zero, suc, _-_, _/_, _%_, _^_, _≤_}
+use native.Mathlib.Nat.{not-suc-le-zero}
+use native.Mathlib.Omega.{arith}
+use lib.Ieee.{Float, binary32, mul, ofBits}
+use Rattle.root.specs.Root.{sqrt}
+use Rattle.power.specs.Power.{one, times, ifOne, roots, power256}
+
+pub times-step : (i : ℕ) (x p : Float) → 1 ≤ i → times (i - 1) x (mul binary32 p x) ≡ times i x p
+unfolding times
+times-step zero x p h = absurd (not-suc-le-zero h)
+times-step (suc i) x p h = ap (λ (n : ℕ). times n x (mul binary32 p x)) (less i)
+  where
+    less : (i : ℕ) → suc i - 1 ≡ i
+    less i = omega arith
+
+pub roots-step : (d v : ℕ) (r p y : Float) → 1 ≤ d → y ≡ sqrt binary32 r → roots (d - 1) v y (ifOne (v / 2 ^ (d - 1) % 2) y p) ≡ roots d v r p
+unfolding roots
+roots-step zero v r p y h e = absurd (not-suc-le-zero h)
+roots-step (suc d) v r p y h e =
+    ap (λ (n : ℕ). roots n v y (ifOne (v / 2 ^ n % 2) y p)) (less d) ∙ ap (λ (z : Float). roots d v z (ifOne (v / 2 ^ d % 2) z p)) e
+  where
+    less : (i : ℕ) → suc i - 1 ≡ i
+    less i = omega arith
+
+pub roots-end : (d v : ℕ) (r p : Float) → d ≤ 0 → roots d v r p ≡ p
+unfolding roots
+roots-end zero v r p h = refl
+roots-end (suc d) v r p h = absurd (not-suc-le-zero h)
+
+pub times-end : (i : ℕ) (x p : Float) → i ≤ 0 → times i x p ≡ p
+unfolding times
+times-end zero x p h = refl
+times-end (suc i) x p h = absurd (not-suc-le-zero h)
+
+pub if-one : (d : ℕ) (y p : Float) → d ≡ 1 → ifOne d y p ≡ mul binary32 p y
+unfolding ifOne
+if-one d y p e = ap (λ (n : ℕ). ifOne n y p) e
+
+pub if-zero : (d : ℕ) (y p : Float) → d ≡ 0 → ifOne d y p ≡ p
+unfolding ifOne
+if-zero d y p e = ap (λ (n : ℕ). ifOne n y p) e
+
+pub power-is : (x : Float) (v : ℕ) (p : Float) → p ≡ times (v / 256) x one → roots 8 v x p ≡ power256 x v
+unfolding power256
+power-is x v p e = ap (λ (q : Float). roots 8 v x q) e
+
+pub a-one : ofBits binary32 1065353216 ≡ one
+unfolding ofBits
+a-one = refl

@@ -1,0 +1,61 @@
+// x to the power a, for 0 <= x <= 1: the whole part of a by repeated multiplication, and eight binary digits of its fraction by repeated square roots.
+ghost use mathlib.Core.Path.{_≡_};
+ghost use lib.Dec.{T};
+ghost use lib.Ieee as Ieee;
+ghost use Rattle.float.specs.Float.{zero};
+ghost use Rattle.power.specs.Power.{steps, power256, powerUp, power};
+
+// 256 times a, cut down to a whole number, at most 64 * 256.
+fn in_256ths(a: f32) -> u32
+    requires { ⌜ T (Ieee.lt zero a) ⌝ }
+    ensures { λ r. ⌜ r ≡ steps a ⌝ }
+{
+    if a < 64.0 { float::scaled(a, 8) } else { 16384 }
+}
+
+// x to the power v / 256.
+fn power_256(x: f32, v: u32) -> f32
+    ensures { λ r. ⌜ r ≡ power256 x v ⌝ }
+{
+    let mut p: f32 = 1.0;
+    let mut i = v / 256;
+    while i > 0 {
+        p = p * x;
+        i -= 1;
+    }
+    let mut r = x;
+    let mut d: u32 = 8;
+    while d > 0 {
+        d -= 1;
+        r = root::sqrt_f32(r);
+        if (v >> d) % 2 == 1 {
+            p = p * r;
+        }
+    }
+    p
+}
+
+// x to a power above 0.
+fn power_up(x: f32, a: f32) -> f32
+    requires { ⌜ T (Ieee.lt zero a) ⌝ }
+    ensures { λ r. ⌜ r ≡ powerUp x a ⌝ }
+{
+    if x == 0.0 {
+        0.0
+    } else {
+        power_256(x, in_256ths(a))
+    }
+}
+
+// x to the power a.
+pub fn power_of(x: f32, a: f32) -> f32
+    ensures { λ r. ⌜ r ≡ power x a ⌝ }
+{
+    if a > 0.0 {
+        power_up(x, a)
+    } else if a < 0.0 {
+        1.0 / power_up(x, -a)
+    } else {
+        1.0
+    }
+}

@@ -1,0 +1,4 @@
+pub mod Block
+pub mod Heads
+pub mod Kept
+pub mod Reading

@@ -1,0 +1,110 @@
+-- What the two reading calls answer, and what the table holds afterwards.
+use mathlib.Core.Path.{_≡_, refl}
+use mathlib.Core.List.{List, [], _∷_}
+use mathlib.Core.Bool.{Bool, true, false}
+use Prim.Native.Nat.{ℕ, zero, suc, _+_, _-_, _*_, _/_, _≤_, min}
+use lib.Dec.{ltb, leb, eqb}
+use lib.ListN.{length, getD}
+use Rattle.scan.specs.Scan.{pick, inClass, spanTo, past, trimStart, trimEnd}
+use Rattle.scan.specs.declared.Class.the-variants.{Is, Below}
+use Rattle.lists.specs.declared.Found.{Found}
+use Rattle.lists.specs.declared.Found.the-variants.{Nowhere, At}
+use Rattle.refusal.specs.Refusal.{numberOf, placeOf, mostBytes, mostPlaces}
+use Rattle.refusal.specs.declared.Refusal.{Refusal}
+use Rattle.refusal.specs.declared.Refusal.the-variants.{TextTooLong, NotAscii, NumeralTooLong, FadeTooFar, NoRoom}
+use Rattle.tag.specs.Table.{encode, laid, width}
+use Rattle.read.specs.declared.Out.{Out}
+use Rattle.read.specs.declared.Reading.{Reading}
+use Rattle.read.specs.declared.Reading.the-variants.{Read, Refused}
+use Rattle.read.specs.declared.Span.{Span}
+use Rattle.read.specs.declared.Checked.{Checked}
+use Rattle.read.specs.declared.Checked.the-variants.{Good, Bad}
+use Rattle.read.specs.Block.{Got, parse, mostDepth}
+
+-- 01, What demand 3 speaks of: each tag counts as one, a \t and each tag inside it
+abbrev pub keptTags : Got → ℕ
+keptTags g = length (encode (g .tags))
+
+-- what a reader of the cycle says of its result r and of the table, t before and u after
+abbrev pub outOf : Got → Out
+outOf g = record { n = keptTags g; long = g .long; far = g .far }
+
+pub record Told (t : List ℕ) (g : Got) (most : ℕ) (r : Out) (u : List ℕ) : Type 0 where
+  pub out : r ≡ outOf g
+  pub table : u ≡ laid t (encode (g .tags))
+  pub few : r .n ≤ most
+
+-- grounds 1 and 2, on the text given
+unfoldable pub textGround : List ℕ → Checked
+textGround s =
+    let a = spanTo (inClass (Below 128)) s 0 (length s) in
+    pick (ltb mostBytes (length s)) (Bad TextTooLong) (pick (ltb a (length s)) (Bad (NotAscii a)) Good)
+
+-- grounds 3, 4 and 9, on what the text gives and the number of places in the table
+unfoldable pub readGround : Found → Found → ℕ → ℕ → Reading
+readGround (At p) far n places = Refused (NumeralTooLong p)
+readGround Nowhere (At p) n places = Refused (FadeTooFar p)
+readGround Nowhere Nowhere n places = pick (leb n (min places mostPlaces)) (Read n) (Refused (NoRoom n))
+
+abbrev pub unlessBad : Checked → Reading → Reading
+unlessBad (Bad r) x = Refused r
+unlessBad Good x = x
+
+-- a place is one whole record
+abbrev pub placesOf : List ℕ → ℕ
+placesOf t = length t / width
+
+-- the part of the text that is read: all of it, or what `parse_raw_block` leaves: trimmed, less one { and one }
+abbrev pub wholeText : List ℕ → Span
+wholeText s = record { from = 0; to = length s }
+
+abbrev pub braceEnd : List ℕ → ℕ → ℕ → ℕ
+braceEnd s p b = pick (ltb p b) (pick (eqb (getD s (b - 1) 0) 125) (b - 1) b) b
+
+pub record BraceEnd (s : List ℕ) (p b r : ℕ) : Type 0 where
+  pub is : r ≡ braceEnd s p b
+  pub low : p ≤ r
+  pub high : r ≤ b
+
+unfoldable pub lessBraces : List ℕ → Span
+lessBraces s =
+    let a = trimStart s 0 (length s) in
+    let b = trimEnd s a (length s) in
+    let p = past (inClass (Is 123)) s a b in
+    record { from = p; to = braceEnd s p b }
+
+-- the block: what the text gives
+abbrev pub blockOf : List ℕ → Span → Got
+blockOf s x = parse mostDepth s (x .from) (x .to)
+
+-- the answer of a reading call
+unfoldable pub answer : List ℕ → Span → ℕ → Reading
+answer s x places =
+    let g = blockOf s x in
+    unlessBad (textGround s) (readGround (g .long) (g .far) (keptTags g) places)
+
+-- the table afterwards: the records and then every old word; on a refusal every old word
+abbrev pub tableAfter : Reading → List ℕ → Got → List ℕ
+tableAfter (Read n) t g = laid t (encode (g .tags))
+tableAfter (Refused r) t g = t
+
+unfoldable pub after : List ℕ → Span → List ℕ → List ℕ
+after s x t = tableAfter (answer s x (placesOf t)) t (blockOf s x)
+
+-- the answer's ground, 0 for none; its place or count; and the value beside it, the records written
+abbrev pub groundNumber : Reading → ℕ
+groundNumber (Read n) = 0
+groundNumber (Refused r) = numberOf r
+
+abbrev pub groundPlace : Reading → ℕ
+groundPlace (Read n) = 0
+groundPlace (Refused r) = placeOf r
+
+abbrev pub recordsRead : Reading → ℕ
+recordsRead (Read n) = n
+recordsRead (Refused r) = 0
+
+-- what a reading call says: the answer r, and the table t before and u after
+pub record Answered (s : List ℕ) (x : Span) (t : List ℕ) (r : Reading) (u : List ℕ) : Type 0 where
+  pub reading : r ≡ answer s x (placesOf t)
+  pub table : u ≡ after s x t

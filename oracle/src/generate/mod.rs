@@ -1,0 +1,9 @@
+//! Seeded generators of inputs.
+
+pub mod block;
+pub mod drawing;
+pub mod exhaustive;
+pub mod number;
+pub mod size;
+pub mod table;
+pub mod text;
