@@ -71,7 +71,8 @@ within (fin false m e) u h =
     big : 0 < 1000000000 * down e
     big = mul-pos (lit< tt) (down-pos e)
 
-fraction-in-reach : (s : Bool) (n d : ℕ) → 0 < d → n ≤ 1000000000 * d → T (inReach (round binary32 s n d))
+-- a fraction of magnitude at most 1,000,000,000
+pub fraction-in-reach : (s : Bool) (n d : ℕ) → 0 < d → n ≤ 1000000000 * d → T (inReach (round binary32 s n d))
 fraction-in-reach s n d D h = go s
   where
     both : T (inReach (round binary32 false n d)) × T (inReach (neg (round binary32 false n d)))

@@ -37,7 +37,6 @@ left-twice n h = omega arith
 
 -- ---- a signed number's bits: y is the number as the code reads it
 pub up-case : (y z : ℤ) → y ≡ z → SFits w32 y → leZ (pos 0) y ≡ true → (T (nonNeg y) × Fits w32 (natAbs y)) × (natAbs y ≡ toWord z)
-unfolding toWord
 up-case (pos n) z e f t = ((tt, fits-natAbs tt f), ap toWord e)
 up-case (negsuc n) z e f t = absurd (true≢false (sym t))
 
@@ -46,7 +45,6 @@ abbrev pub Below : ℤ → ℤ → Type 0
 Below d z = SFits w32 d × (toZ w32 (ofZ w32 d) ≡ d) × (T (nonNeg d) × Fits w32 (natAbs d)) × (natAbs d ≤ 4294967295) × (4294967295 - natAbs d ≡ toWord z)
 
 pub down-case : (y z : ℤ) → y ≡ z → SFits w32 y → leZ (pos 0) y ≡ false → Below (negsuc 0 -ℤ y) z
-unfolding toWord
 down-case (pos n) z e f t = absurd (true≢false (sym (leb·zero n) ∙ t))
 down-case (negsuc n) z e f t =
     let g : SFits w32 (pos n) = fits-pos n (f .sfits) in
@@ -86,7 +84,7 @@ minus-is (suc n) p h =
 
 -- ---- there and back
 pub ofWord-toWord : (z : ℤ) → SFits w32 z → ofWord (toWord z) ≡ z
-unfolding ofWord toWord
+unfolding ofWord
 ofWord-toWord (pos n) f = ap (λ (t : Bool). cond t (pos n) (negsuc (2 ^ 32 - suc n))) (lt-ltb n (2 ^ 31) (f .sfits))
 ofWord-toWord (negsuc n) f =
     ap (λ (t : Bool). cond t (pos (2 ^ 32 - suc n)) (negsuc (2 ^ 32 - suc (2 ^ 32 - suc n)))) (le-ltb (2 ^ 32 - suc n) (2 ^ 31) (high n (f .sfits)))
@@ -99,7 +97,7 @@ ofWord-toWord (negsuc n) f =
     more n h = omega arith
 
 pub toWord-ofWord : (n : ℕ) → n < 2 ^ 32 → toWord (ofWord n) ≡ n
-unfolding ofWord toWord
+unfolding ofWord
 toWord-ofWord n h = go (ltb n (2 ^ 31))
   where
     go : (t : Bool) → toWord (cond t (pos n) (negsuc (2 ^ 32 - suc n))) ≡ n

@@ -65,7 +65,7 @@ roundByte (inf s) = cond s 0 255
 roundByte (fin s m e) = cond s 0 (min (roundSize (fin s m e)) 255)
 
 -- 01, A table record: "signed numbers in two's complement"
-unfoldable pub toWord : ℤ → ℕ
+abbrev pub toWord : ℤ → ℕ
 toWord (pos n) = n
 toWord (negsuc n) = 2 ^ 32 - suc n
 

@@ -107,7 +107,6 @@ nan-bits = refl
 
 -- two's complement
 minus-one : toWord (negsuc 0) ≡ 0xFFFFFFFF
-unfolding toWord
 minus-one = refl
 
 least-i32 : ofWord 0x80000000 ≡ negsuc 2147483647

@@ -4,15 +4,16 @@ use mathlib.Core.List.{List, [], _∷_, map}
 use mathlib.Core.Bool.{Bool, true, false}
 use Prim.Native.Nat.{ℕ}
 use Prim.Native.String.{String}
+use lib.IntN.{ℤ, pos, negℤ}
 use lib.Ieee.{round, toBits}
 use lib.ListN.{length}
 use Rattle.scan.specs.Scan.{span, skip, skipBack, blankAt, blankBefore}
-use Rattle.numeral.specs.Numeral.{value, wholeNumber, i32Of, splitAt, exponentAt, floatOf, f32Of}
+use Rattle.numeral.specs.Numeral.{value, wholeNumber, wordOfI32, i32Of, I32, splitAt, exponentAt, floatOf, f32Of}
 use Rattle.numeral.specs.Sheet.{bytes}
 use Rattle.lists.specs.declared.Numbers.{Numbers}
 use Rattle.lists.specs.declared.Found.{Found}
 use Rattle.lists.specs.declared.Found.the-variants.{Nowhere, At}
-use Rattle.lists.specs.Lists.{split, items, itemsTo, allWords, filled, firstLong, numbersOf}
+use Rattle.lists.specs.Lists.{split, items, itemsTo, wordOf, allWords, filled, firstLong, numbersOf}
 
 -- what a list holds
 abbrev pub holds : Bool → ℕ → List ℕ → Found → Numbers
@@ -34,11 +35,15 @@ pub floats : Holds false (
 unfolding round toBits span skip skipBack blankAt blankBefore value splitAt exponentAt floatOf f32Of split items allWords filled firstLong
 floats = refl
 
+-- the word of an i32
+abbrev pub int : ℤ → ℕ
+int z = wordOf (wordOfI32 (I32.whole z))
+
 pub integers : Holds true (
-    ("+1, -2 ,3", holds true 3 (1 ∷ 0xFFFFFFFE ∷ 3 ∷ 0 ∷ 0 ∷ 0 ∷ 0 ∷ []) Nowhere) ∷
-    ("1,2.5", holds false 2 (1 ∷ 0 ∷ 0 ∷ 0 ∷ 0 ∷ 0 ∷ 0 ∷ []) Nowhere) ∷
-    ("1e5,7", holds false 2 (0 ∷ 7 ∷ 0 ∷ 0 ∷ 0 ∷ 0 ∷ 0 ∷ []) Nowhere) ∷
-    ("1,2,3,4,5,6,7,x", holds false 8 (1 ∷ 2 ∷ 3 ∷ 4 ∷ 5 ∷ 6 ∷ 7 ∷ []) Nowhere) ∷
+    ("+1, -2 ,3", holds true 3 (int (pos 1) ∷ int (negℤ (pos 2)) ∷ int (pos 3) ∷ 0 ∷ 0 ∷ 0 ∷ 0 ∷ []) Nowhere) ∷
+    ("1,2.5", holds false 2 (int (pos 1) ∷ 0 ∷ 0 ∷ 0 ∷ 0 ∷ 0 ∷ 0 ∷ []) Nowhere) ∷
+    ("1e5,7", holds false 2 (0 ∷ int (pos 7) ∷ 0 ∷ 0 ∷ 0 ∷ 0 ∷ 0 ∷ []) Nowhere) ∷
+    ("1,2,3,4,5,6,7,x", holds false 8 (int (pos 1) ∷ int (pos 2) ∷ int (pos 3) ∷ int (pos 4) ∷ int (pos 5) ∷ int (pos 6) ∷ int (pos 7) ∷ []) Nowhere) ∷
     [])
 unfolding span skip skipBack blankAt blankBefore value wholeNumber i32Of split items allWords filled firstLong
 integers = refl

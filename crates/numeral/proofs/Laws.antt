@@ -14,7 +14,7 @@ use borrow.Author.Tests.{eq-eqb, ne-eqb, lt-ltb, le-ltb, le-leb, lt-leb, ltb-tru
 use Rattle.scan.specs.Scan.{pick, digitOf, inClass, span, spanTo, past}
 use Rattle.scan.specs.declared.Class.the-variants.{Digit}
 use Rattle.scan.proofs.Laws.{le-or-lt, more, none, span-low, digit-below, digit-decimal, digit-between, digit-upper, digit-middle, digit-lower, digit-above}
-use Rattle.float.specs.Words.{toWord}
+use Rattle.float.specs.Float.{toWord}
 use Rattle.numeral.specs.declared.Numeral.the-variants.{No, Word}
 use Rattle.numeral.specs.declared.Decimal.{Decimal}
 use Rattle.numeral.specs.Numeral.{isDigit, isSign, isMinus, isPlus, value, most, wholeNumber, wordOfI32, I32, i32Of, upTo, hexAt, splitAt, exponentAt, F32, floatOf, f32Of}

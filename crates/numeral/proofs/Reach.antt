@@ -11,8 +11,8 @@ use lib.Ieee.Bits.{toBits-lt, ofBits-toBits}
 use lib.Ieee.Fits.{round-fits}
 use Rattle.scan.specs.Scan.{past}
 use Rattle.scan.proofs.Laws.{le-or-lt, zero-or}
-use Rattle.float.specs.Words.{inReach}
-use Rattle.float.proofs.Reach.{in-reach}
+use Rattle.float.specs.Float.{inReach}
+use Rattle.float.proofs.Reach.{fraction-in-reach as in-reach}
 use Rattle.numeral.specs.declared.Decimal.{Decimal}
 use Rattle.numeral.specs.Numeral.{isMinus, splitAt, exponentAt, F32, floatOf, f32Of}
 use Rattle.numeral.proofs.Laws.{f32-empty, f32-exponent, f32-rest, f32-long, f32-long-fraction, f32-number, digitsOf, digits-below}

@@ -9,7 +9,7 @@ use lib.IntN.{ℤ, pos, negℤ}
 use lib.Ieee.{Float, binary32, round, toBits}
 use Rattle.scan.specs.Scan.{pick, digitOf, inClass, spanTo, past, trimStart, trimEnd}
 use Rattle.scan.specs.declared.Class.the-variants.{Digit, Is, Either}
-use Rattle.float.specs.Words.{toWord}
+use Rattle.float.specs.Float.{toWord}
 use Rattle.numeral.specs.declared.Numeral.{Numeral}
 use Rattle.numeral.specs.declared.Numeral.the-variants.{No, TooLong, Word}
 use Rattle.numeral.specs.declared.Decimal.{Decimal}

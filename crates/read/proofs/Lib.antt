@@ -1,1 +1,3 @@
 pub mod Peeling
+pub mod Walk
+pub mod Turn

@@ -7,7 +7,7 @@ use lib.Dec.{leb}
 use lib.Ieee.{Float, binary32, toBits}
 use lib.ListN.{length, drop}
 use Rattle.scan.specs.Scan.{pick}
-use Rattle.float.specs.Words.{toWord}
+use Rattle.float.specs.Float.{toWord}
 use Rattle.tag.specs.declared.Record.{Record}
 use Rattle.tag.specs.Tag.{Part, Times, absent, times, Rgb, KaraokeKind, Fill, Sweep, Outline, Reset, plain, named, AnimatedTag, Fad, Fade, Pos, Move, Frz, Blur, Fscx, Fscy, Color1, Fs, ClipRect, ClipDrawing, Frx, Fry, Org, Bord, Xbord, Ybord, Shad, Xshad, Yshad, Be, Fax, Fay, IClipRect, IClipDrawing, Color2, Color3, Color4, Alpha, Alpha1, Alpha2, Alpha3, Alpha4, Fsp, Q, An, A, Fn, Fe, R, B, I, U, S, Karaoke, Pbo, P, T, Tags, none, and}
 

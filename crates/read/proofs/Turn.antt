@@ -1,0 +1,176 @@
+-- What the readers say of the table, put together.
+use mathlib.Core.Path.{_≡_, refl, sym, ap, subst, _∙_}
+use mathlib.Core.List.{List, [], _∷_, _++_, append-nil}
+use mathlib.Core.Logic.{⊎-elim}
+use Prim.Native.Nat.{ℕ, zero, suc, _+_, _-_, _*_, _≤_, _<_, min}
+use native.Mathlib.Omega.{arith}
+use native.Mathlib.Nat.{zero-min}
+use native.Mathlib.Numerals.{add-one}
+use lib.Ieee.{Float}
+use lib.Dec.{ltb, eqb}
+use Rattle.scan.specs.Scan.{trimStart}
+use Rattle.scan.proofs.Laws.{picked}
+use lib.ListN.{length, getD, take, drop, length-append, length-drop, take-append-drop}
+use lib.Seq.{length-take-le}
+use borrow.Author.Tests.{eq-eqb, ne-eqb}
+use Rattle.lists.specs.Lists.{firstOf}
+use Rattle.lists.specs.declared.Found.{Found}
+use Rattle.lists.specs.declared.Found.the-variants.{Nowhere, At}
+use Rattle.float.specs.Float.{toWord}
+use Rattle.numeral.specs.Numeral.{F32, number, tooLong, f32At}
+use Rattle.tag.specs.Tag.{AnimatedTag, Tags, and, append, T}
+use Rattle.tag.specs.Table.{records, encode, laid, bits, tRecord}
+use Rattle.tag.specs.declared.Record.{Record}
+use Rattle.tag.proofs.Table.{length-laid, laid-t, laid-step, rest-is, rest-back}
+use Rattle.tag.proofs.Tags.{encode-append}
+use Rattle.plain.specs.Plain.{One, no, long, kept, far, plainAt, floatOf, timeOf}
+use Rattle.plain.specs.Coded.{recordOf, keptOf, cutWord}
+use Rattle.plain.specs.declared.Kept.{Kept}
+use Rattle.plain.proofs.Numbers.{Back, f32-back}
+use Rattle.plain.proofs.Gives.{Single}
+use Rattle.plain.proofs.Bridge.{plain-single}
+use Rattle.read.specs.declared.Out.{Out}
+use Rattle.read.specs.declared.Heads.{Heads}
+use Rattle.read.specs.declared.Peeled.{Peeled}
+use Rattle.read.specs.Block.{Got, nothing, join, oneGot, Peel, peelHead, peel, peelTo, headTimes, headAccel, tOf, headEnd, one, parse, tAt}
+use Rattle.read.specs.Heads.{headed, headsFrom, noHeads, tWords, Peels}
+use Rattle.read.specs.Kept.{keptRecords, keptGot, joinedOut, aroundOut}
+use Rattle.read.specs.Reading.{keptTags, outOf, Told}
+use Rattle.read.proofs.Walk.{t-more}
+
+-- ---- a plain tag
+
+told-one : (i : ℕ) (x : One) (t : List ℕ) (most : ℕ) → 1 ≤ most → Single x → Told t (oneGot i x) most (keptGot i (keptOf x)) (laid t (keptRecords (keptOf x)))
+unfolding encode laid
+told-one i no t most h s = record { out = refl; table = refl; few = omega arith }
+told-one i (long p) t most h s = record { out = refl; table = refl; few = omega arith }
+told-one i (kept x) t most h s = record { out = rw s; table = rw s; few = h }
+told-one i (far x) t most h s = record { out = rw s; table = rw s; few = h }
+
+pub plain-told : (s : List ℕ) (i a b p q : ℕ) (t : List ℕ) (most : ℕ) (k : Kept) (r : Out) (u : List ℕ) → 1 ≤ most → k ≡ keptOf (plainAt s a b p q) → r ≡ keptGot i k → u ≡ laid t (keptRecords k)
+  → Told t (oneGot i (plainAt s a b p q)) most r u
+plain-told s i a b p q t most k r u h e f g = rw (f, g, e) (told-one i (plainAt s a b p q) t most h (plain-single s a b p q))
+
+-- ---- a \t
+
+-- all numbers of a list come back from their bits
+pub data Backs : List Float → Type 0 where
+  none : Backs []
+  more : {x : Float} {l : List Float} → Back x → Backs l → Backs (x ∷ l)
+
+head-backs : (f : F32) (i q k b : ℕ) (u : Peel) → Back (floatOf f) → Backs (u .heads) → Backs (peelHead f i q k b u .heads)
+head-backs F32.none i q k b u e g = none
+head-backs (tooLong p) i q k b u e g = none
+head-backs (number x) i q k b u e g =
+    more e (picked (λ (v : Peel). Backs (v .heads)) (ltb k q) _ _ (picked (λ (v : Peel). Backs (v .heads)) (eqb b 92) _ _ none g) none)
+
+peel-backs : (s : List ℕ) (q n i : ℕ) → Backs (peel s q n i .heads)
+unfolding peel
+peel-backs s q zero i = none
+peel-backs s q (suc n) i =
+    let k = headEnd s i q in
+    let u = peel s q n (trimStart s (k + 1) q) in
+    head-backs (f32At s i k) i q k (getD s k 0) u (f32-back s i k) (peel-backs s q n (trimStart s (k + 1) q))
+
+-- from the third number on nothing changes
+heads-full : (l : List Float) (n a b c m : ℕ) → 3 ≤ n → tWords (headsFrom (record { count = n; w0 = a; w1 = b; w2 = c }) l) m ≡ tWords (record { count = 3; w0 = a; w1 = b; w2 = c }) m
+unfolding headsFrom headed tWords
+heads-full [] n a b c m h =
+    let x = ne-eqb n 0 (λ z. omega arith) in
+    let y = ne-eqb n 1 (λ z. omega arith) in
+    let w = ne-eqb n 2 (λ z. omega arith) in
+    simp (x, y, w)
+heads-full (v ∷ l) n a b c m h =
+    let x = ne-eqb n 0 (λ z. omega arith) in
+    let y = ne-eqb n 1 (λ z. omega arith) in
+    let w = ne-eqb n 2 (λ z. omega arith) in
+    rw (x, y, w) (heads-full l (n + 1) a b c m (omega arith))
+
+cut-back : {x : Float} → Back x → cutWord (bits x) ≡ toWord (timeOf x)
+cut-back e = rw e
+
+-- the record of a \t from the words of its numbers
+t-words : {l : List Float} → Backs l → (n : ℕ) → tWords (headsFrom noHeads l) n ≡ tRecord (headTimes l) (headAccel l) n
+unfolding headsFrom headed tWords
+t-words none n = refl
+t-words (more e none) n = refl
+t-words (more e (more f none)) n = rw (cut-back e, cut-back f)
+t-words (more {x = a} e (more {x = b} f (more {x = c} {l = l} g h))) n =
+    heads-full l 3 (bits a) (bits b) (bits c) n (omega arith) ∙ rw (cut-back e, cut-back f)
+
+-- the table when the part from k on, which was lent and holds u now, is back
+part-table : (t u : List ℕ) (rs : List Record) (k : ℕ) → k ≤ length t → u ≡ laid (take (length t - k) (drop k t)) rs → take k t ++ (u ++ drop (length t - k) (drop k t)) ≡ take k t ++ laid (drop k t) rs
+part-table t u rs k h e = rest-back k t u h ∙ ap (λ (l : List ℕ). take k t ++ l) (e ∙ ap (λ (l : List ℕ). laid l rs) (rest-is k t))
+
+length-part : (t : List ℕ) (rs : List Record) (k : ℕ) → k ≤ length t → length (take k t ++ laid (drop k t) rs) ≡ length t
+length-part t rs k h = simp (length-append, length-laid) (omega (arith, length-take-le k t h, length-drop k t))
+
+-- what `parse_t` says, from what its calls say
+module _ (d : ℕ) (s : List ℕ) (p q : ℕ) (t : List ℕ) (l : Peeled) (o r : Out) (k : ℕ) (x : Record) (u v : List ℕ) where
+  pub t-told : ¬ (d ≡ 0) → Peels p q (peelTo s p q) l → Told (take (length t - k) (drop k t)) (parse (d - 1) s (l .rest) q) (q - l .rest) o u → k ≡ min 8 (length t)
+    → x ≡ tWords (l .heads) (o .n) → v ≡ laid (take k t ++ (u ++ drop (length t - k) (drop k t))) (x ∷ []) → r ≡ aroundOut (l .long) o
+    → Told t (tAt d s p q) (q - p + 1) r v
+  unfolding encode
+  t-told h g a e b c f =
+      let w = peelTo s p q in
+      let i = parse (d - 1) s (w .rest) q in
+      let a2 : Told (take (length t - k) (drop k t)) i (q - l .rest) o u = subst (λ (y : ℕ). Told (take (length t - k) (drop k t)) (parse (d - 1) s y q) (q - l .rest) o u) (g .rest) a in
+      let n : o .n ≡ keptTags i = ap (λ (y : Out). y .n) (a2 .out) in
+      let m : o .long ≡ i .long = ap (λ (y : Out). y .long) (a2 .out) in
+      let j : o .far ≡ i .far = ap (λ (y : Out). y .far) (a2 .out) in
+      let tb = part-table t u (encode (i .tags)) k (omega arith) (a2 .table) in
+      let y : x ≡ tRecord (headTimes (w .heads)) (headAccel (w .heads)) (keptTags i) = b ∙ rw (g .heads, n) (t-words (peel-backs s q (suc (q - trimStart s p q)) (trimStart s p q)) (keptTags i)) in
+      let z : v ≡ laid t (x ∷ encode (i .tags)) = c ∙ ap (λ (y : List ℕ). laid y (x ∷ [])) tb ∙ laid-t t x (encode (i .tags)) k e in
+      record {
+        out = rw (f, t-more d s p q h, append-nil (encode (i .tags)), n, m, j, g .long, add-one);
+        table = rw (t-more d s p q h, append-nil (encode (i .tags)), ← y) z;
+        few = rw f (omega (arith, a .few, g .low))
+      }
+
+-- ---- a block
+
+first-assoc : (a b c : Found) → firstOf a (firstOf b c) ≡ firstOf (firstOf a b) c
+first-assoc Nowhere b c = refl
+first-assoc (At p) b c = refl
+
+first-end : (a : Found) → firstOf a Nowhere ≡ a
+first-end Nowhere = refl
+first-end (At p) = refl
+
+-- where a block's reading stands: `all` is what it gives, `rest` what is still to come, t the table and o the result now
+pub record Turning (t₀ : List ℕ) (all rest : Got) (t : List ℕ) (o : Out) : Type 0 where
+  pub len : length t ≡ length t₀
+  pub table : laid t₀ (encode (all .tags)) ≡ take (min (8 * o .n) (length t)) t ++ laid (drop (min (8 * o .n) (length t)) t) (encode (rest .tags))
+  pub count : o .n + keptTags rest ≡ keptTags all
+  pub long : all .long ≡ firstOf (o .long) (rest .long)
+  pub far : all .far ≡ firstOf (o .far) (rest .far)
+
+pub turning-start : (t : List ℕ) (g : Got) → Turning t g g t (record { n = 0; long = Nowhere; far = Nowhere })
+turning-start t g = record { len = refl; table = simp zero-min; count = omega arith; long = refl; far = refl }
+
+pub turning-turn : {t₀ t u : List ℕ} {all rest g : Got} {o o′ r : Out} {k most : ℕ} → Turning t₀ all (join g rest) t o → k ≡ min (8 * o .n) (length t)
+  → Told (take (length t - k) (drop k t)) g most o′ u → r ≡ joinedOut o o′ → Turning t₀ all rest (take k t ++ (u ++ drop (length t - k) (drop k t))) r
+turning-turn {t₀} {t} {u} {all} {rest} {g} {o} {o′} {r} {k} {most} l e a f =
+    let x = encode (g .tags) in
+    let w = part-table t u x k (omega arith) (a .table) in
+    let n = length-part t x k (omega arith) in
+    let m : o′ .n ≡ length x = ap (λ (y : Out). y .n) (a .out) in
+    let b : o′ .long ≡ g .long = ap (λ (y : Out). y .long) (a .out) in
+    let d : o′ .far ≡ g .far = ap (λ (y : Out). y .far) (a .out) in
+    let ea = encode-append (g .tags) (rest .tags) in
+    let s = laid-step t x (encode (rest .tags)) (o .n) k (min (8 * (o .n + length x)) (length t)) e refl in
+    record {
+      len = rw w (n ∙ l .len);
+      table = rw (w, n, f, m) (l .table ∙ rw (ea, ← e) s);
+      count = rw f (omega (arith, l .count, ap length ea, length-append x (encode (rest .tags))));
+      long = rw (f, b) (l .long ∙ first-assoc (o .long) (g .long) (rest .long));
+      far = rw (f, d) (l .far ∙ first-assoc (o .far) (g .far) (rest .far))
+    }
+
+pub turning-end : {t₀ t : List ℕ} {all : Got} {o : Out} {most : ℕ} → Turning t₀ all nothing t o → o .n ≤ most → Told t₀ all most o t
+unfolding encode laid
+turning-end {t₀} {t} {all} {o} {most} l h =
+    let m : keptTags all ≡ o .n = omega (arith, l .count) in
+    let b : all .long ≡ o .long = l .long ∙ first-end (o .long) in
+    let d : all .far ≡ o .far = l .far ∙ first-end (o .far) in
+    record { out = rw (m, b, d); table = sym (l .table ∙ take-append-drop (min (8 * o .n) (length t)) t); few = h }
