@@ -26,9 +26,9 @@ use Rattle.plain.specs.declared.Kept.{Kept}
 use Rattle.plain.specs.declared.Kept.the-variants as Kept
 use Rattle.plain.specs.Names.{Named, Shape, float, pair, ranged, flag, alpha, colour, clip, beat, fad, fade, move, edge, baseline, weight, reset, unknown, names, lookup, keyAt}
 use Rattle.plain.specs.Plain.{One, no, kept, far, part, mapF32, mapAlpha, mapColour, floatOf, f32s, i32s, allFloats, floatsIn, allInts, intsIn, firstLong, moveOf, pairOf, clipOf, beatOf, nth, shaped, isFn, isNamedReset, plainAt}
-use Rattle.plain.specs.Coded.{recordOf, keptOf, kindOf, codeOf, keepWord, beatWord, edgeWord, baselineWord, longOr, nthWord, pairTag, moveTag, alphaTag, colourTag, clipTag, drawingTag, numbersAt, listedTag, shapedTag, fnTag}
+use Rattle.plain.specs.Coded.{recordOf, keptOf, kindOf, codeOf, keepWord, beatWord, edgeWord, baselineWord, longOr, nthWord, pairTag, moveTag, alphaTag, colourTag, clipTag, drawingTag, numbersAt, shapedTag, fnTag}
 use Rattle.plain.proofs.Numbers.{Back, f32-back, i32-small}
-use Rattle.plain.proofs.Listed.{Floats, floats-read, floats-length, ints-read}
+use Rattle.plain.proofs.Commas.{Floats, floats-read, floats-length, ints-read}
 use Rattle.plain.proofs.Gives.{Gives, nothing, late, tag, gives-kept, Single, gives-single, gives-pick, gives-long, gives-pair, gives-move, gives-fad, gives-fade, gives-ranged, gives-weight, gives-flag, gives-reset}
 
 -- ---- every tag of the table has one record, of one kind, with its numbers in order
@@ -127,7 +127,7 @@ module _ (f : Float → Float → Float → Float → AnimatedTag) (g : Tag.Part
 -- ---- the bridge
 
 gives : (x : Shape) → Sound x → (s : List ℕ) (p q : ℕ) → Gives (shapedTag (codeOf x) s p q) (shaped x s p q)
-unfolding shapedTag listedTag codeOf shaped records
+unfolding shapedTag codeOf shaped records
 gives (float f) h s p q = gives-f32 f _ (λ x b. h x) (f32At s p q) (f32-back s p q)
 gives (pair f) h s p q = gives-long _ _ s (parts s p q) (gives-pair (numbersAt false s p q) f _ h (allFloats (f32s s (parts s p q))) (floatsIn (f32s s (parts s p q))) (floats-read s p q))
 gives (ranged a b f) h s p q = gives-ranged f _ (h .1) a b (h .0) (i32At s p q) (i32-small s p q)

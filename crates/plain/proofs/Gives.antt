@@ -25,7 +25,7 @@ use Rattle.plain.specs.declared.Kept.the-variants as Kept
 use Rattle.plain.specs.Plain.{One, no, long, kept, far, part, f32s, firstLong, pairOf, moveOf, fadOf, fadeOf, rangedOf, weightOf, flagOf, resetOf, intOf, nthInt, isFar}
 use Rattle.plain.specs.Coded.{recordOf, keptOf, longOr, nthWord, pairTag, moveTag, fadTag, fadeTag, rangedTag, weightTag, flagTag, drawingTag, resetTag}
 use Rattle.plain.proofs.Numbers.{Small, high, clip-word, byte-word, far-word}
-use Rattle.plain.proofs.Listed.{Floats, Ints}
+use Rattle.plain.proofs.Commas.{Floats, Ints}
 
 pub data Gives : Kept → One → Type 0 where
   nothing : Gives Kept.No no
@@ -107,13 +107,13 @@ module _ (n : Numbers) where
 
 module _ (f : ℕ → AnimatedTag) (k : ℕ) (h : (n : ℕ) → records (f n) ≡ oneNumber k n) where
   pub gives-ranged : (a b : ℕ) → b < 2147483648 → (y : I32) → Small (intOf y) → Gives (rangedTag k a b (wordOfI32 y)) (rangedOf a b f y)
-  unfolding rangedTag rangedOf toWord
+  unfolding rangedTag rangedOf
   gives-ranged a b u I32.none z = nothing
   gives-ranged a b u (whole (pos n)) z = gives-pick (leb a n) (gives-pick (leb n b) (tag (h n)) nothing) nothing
   gives-ranged a b u (whole (negsuc n)) z = rw (lt-leb (4294967296 - suc n) b (omega (arith, high n z))) (gives-none (leb a (4294967296 - suc n)))
 
 pub gives-weight : (y : I32) → Small (intOf y) → Gives (weightTag (wordOfI32 y)) (weightOf y)
-unfolding weightTag weightOf rangedTag toWord records
+unfolding weightTag weightOf rangedTag records
 gives-weight I32.none z = nothing
 gives-weight (whole (pos n)) z =
     gives-pick (eqb n 0) (tag refl) (gives-pick (eqb n 1) (tag refl) (gives-pick (leb 100 n) (gives-pick (leb n 900) (tag refl) nothing) nothing))

@@ -1,4 +1,5 @@
 pub mod Numbers
-pub mod Listed
+pub mod Commas
 pub mod Gives
 pub mod Bridge
+pub mod Keys

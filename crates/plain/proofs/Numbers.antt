@@ -16,51 +16,29 @@ use Rattle.scan.proofs.Laws.{picked, le-or-lt}
 use Rattle.float.specs.Float.{zero as plusZero, toWord}
 use Rattle.numeral.specs.Numeral as Numeral
 use Rattle.numeral.specs.Numeral.{F32, tooLong, number, f32Of, f32At, splitAt, exponentAt, isSign, isMinus, wholeNumber, I32, whole, i32Of, i32At, wordOfF32, wordOfI32}
+use Rattle.numeral.proofs.Reach.{number-in-reach}
 use Rattle.lists.specs.Lists.{wordOf}
 use Rattle.tag.specs.Table.{bits}
 use Rattle.plain.specs.Plain.{floatOf, intOf, notBelowZero, byteOf, isFar}
 use Rattle.plain.specs.Coded.{notBelowZeroWord, byteWord, farWord}
 
--- ---- f32: binary32 holds what a text gives, so its bits give it back
-
-abbrev pub Held : Float → Type 0
-Held x = T (fits binary32 x)
-
-abbrev HeldIn : F32 → Type 0
-HeldIn x = Held (floatOf x)
-
-pub zero-held : Held plusZero
-unfolding fits
-zero-held = tt
-
-module _ (p : ℕ) (x : Float) (h : Held x) where
-  in-picks : (a b c d e : Bool) → HeldIn (pick a F32.none (pick b (pick c (tooLong p) F32.none) (pick d (pick e (number x) (tooLong p)) (tooLong p))))
-  in-picks true b c d e = zero-held
-  in-picks false true true d e = zero-held
-  in-picks false true false d e = zero-held
-  in-picks false false c true true = h
-  in-picks false false c true false = zero-held
-  in-picks false false c false e = zero-held
-
-pub f32-held : (s : List ℕ) (p q : ℕ) → HeldIn (f32At s p q)
-unfolding f32Of Numeral.floatOf
-f32-held s p q =
-    let a = trimStart s p q in
-    go s a (trimEnd s a q)
-  where
-    go : (s : List ℕ) (a b : ℕ) → HeldIn (f32Of s a b)
-    go s a b =
-        let d = splitAt s a b in
-        in-picks a (Numeral.floatOf s a b d) (round-fits binary32 _ _ _) (eqb (d .whole - d .from + (d .end - d .fraction)) 0) (ltb (d .end) b) (exponentAt s (d .end) b) (leb (d .whole - d .from) 9) (leb (d .end - d .fraction) 9)
+-- ---- f32: the bits of what a text gives stand for it
 
 abbrev pub Back : Float → Type 0
 Back x = ofBits binary32 (bits x) ≡ x
 
-pub f32-back : (s : List ℕ) (p q : ℕ) → Back (floatOf (f32At s p q))
-f32-back s p q = ofBits-toBits binary32 _ (f32-held s p q)
-
 pub zero-back : Back plusZero
-zero-back = ofBits-toBits binary32 _ zero-held
+unfolding ofBits toBits
+zero-back = refl
+
+module _ (s : List ℕ) where
+  back-of : (a b : ℕ) (x : F32) → f32Of s a b ≡ x → Back (floatOf x)
+  back-of a b F32.none e = zero-back
+  back-of a b (tooLong p) e = zero-back
+  back-of a b (number x) e = number-in-reach s a b x e .back
+
+  pub f32-back : (p q : ℕ) → Back (floatOf (f32At s p q))
+  f32-back p q = back-of (trimStart s p q) (trimEnd s (trimStart s p q) q) (f32At s p q) refl
 
 -- where there is none, both count as 0
 pub word-float : (x : F32) → wordOf (wordOfF32 x) ≡ bits (floatOf x)
@@ -102,7 +80,6 @@ i32-small s p q =
         picked SmallIn (eqb (past isMinus s a b) a) (pick (leb v 2147483647) (whole (pos v)) I32.none) (pick (leb v 2147483648) (whole (negℤ (pos v))) I32.none) (below v _ refl) (above v _ refl)
 
 pub word-int : (x : I32) → wordOf (wordOfI32 x) ≡ toWord (intOf x)
-unfolding toWord
 word-int I32.none = refl
 word-int (whole z) = refl
 
@@ -111,7 +88,6 @@ pub high : (n : ℕ) → n < 2147483648 → 2147483648 ≤ 4294967296 - suc n
 high n h = omega arith
 
 pub clip-word : (z : ℤ) → Small z → notBelowZeroWord (toWord z) ≡ notBelowZero z
-unfolding toWord
 clip-word (pos n) h = rw (lt-ltb n 2147483648 h)
 clip-word (negsuc n) h = rw (le-ltb _ 2147483648 (high n h))
 
@@ -119,7 +95,6 @@ pub byte-word : (z : ℤ) → Small z → byteWord (toWord z) ≡ byteOf z
 byte-word z h = rw (clip-word z h)
 
 pub far-word : (z : ℤ) → Small z → farWord (toWord z) ≡ isFar z
-unfolding toWord
 far-word (pos n) h = go (le-or-lt n 1000000000)
   where
     go : (n ≤ 1000000000) ⊎ (1000000000 < n) → pick (leb n 1000000000) false (leb (suc n) 3294967296) ≡ leb 1000000001 n

@@ -169,36 +169,18 @@ resetTag s p q =
 abbrev pub numbersAt : Bool → List ℕ → ℕ → ℕ → Numbers
 numbersAt whole s p q = numbersOf (itemsTo whole s p q)
 
-unfoldable pub listedTag : Code.Shape → List ℕ → ℕ → ℕ → Kept
-listedTag (Float k) s p q = Kept.No
-listedTag (Pair k) s p q = let n = numbersAt false s p q in longOr (n .«too_long») (pairTag k (n .all) (n .count) (n .words))
-listedTag (Ranged k a b) s p q = Kept.No
-listedTag (Flag k) s p q = Kept.No
-listedTag (Alpha k) s p q = Kept.No
-listedTag (Colour k) s p q = Kept.No
-listedTag (Clip k d) s p q = Kept.No
-listedTag (Beat k) s p q = Kept.No
-listedTag Fad s p q = let n = numbersAt true s p q in fadTag (n .all) (n .count) (n .words)
-listedTag Fade s p q = let n = numbersAt true s p q in fadeTag (n .all) (n .count) (n .words)
-listedTag Move s p q = let n = numbersAt false s p q in longOr (n .«too_long») (moveTag (n .all) (n .count) (n .words))
-listedTag Edge s p q = Kept.No
-listedTag Baseline s p q = Kept.No
-listedTag Weight s p q = Kept.No
-listedTag Reset s p q = Kept.No
-listedTag Unknown s p q = Kept.No
-
 unfoldable pub shapedTag : Code.Shape → List ℕ → ℕ → ℕ → Kept
 shapedTag (Float k) s p q = keepWord (λ w. rec k w 0 0 0 0 0 0) (wordOfF32 (f32At s p q))
-shapedTag (Pair k) s p q = listedTag (Pair k) s p q
+shapedTag (Pair k) s p q = let n = numbersAt false s p q in longOr (n .«too_long») (pairTag k (n .all) (n .count) (n .words))
 shapedTag (Ranged k a b) s p q = rangedTag k a b (wordOfI32 (i32At s p q))
 shapedTag (Flag k) s p q = flagTag k s p q
 shapedTag (Alpha k) s p q = alphaTag k (alphaAt s p q)
 shapedTag (Colour k) s p q = colourTag k (colourAt s p q)
 shapedTag (Clip k d) s p q = clipTag k d (numbersAt false s p q) p q
 shapedTag (Beat k) s p q = keepWord (λ w. rec 46 k (beatWord w) 0 0 0 0 0) (wordOfF32 (f32At s p q))
-shapedTag Fad s p q = listedTag Fad s p q
-shapedTag Fade s p q = listedTag Fade s p q
-shapedTag Move s p q = listedTag Move s p q
+shapedTag Fad s p q = let n = numbersAt true s p q in fadTag (n .all) (n .count) (n .words)
+shapedTag Fade s p q = let n = numbersAt true s p q in fadeTag (n .all) (n .count) (n .words)
+shapedTag Move s p q = let n = numbersAt false s p q in longOr (n .«too_long») (moveTag (n .all) (n .count) (n .words))
 shapedTag Edge s p q = keepWord (λ w. rec 22 (edgeWord w) 0 0 0 0 0 0) (wordOfF32 (f32At s p q))
 shapedTag Baseline s p q = keepWord (λ w. rec 47 (baselineWord w) 0 0 0 0 0 0) (wordOfF32 (f32At s p q))
 shapedTag Weight s p q = weightTag (wordOfI32 (i32At s p q))

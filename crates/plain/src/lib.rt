@@ -105,10 +105,11 @@ fn shape_of(key: u64) -> Shape
 fn lower(b: u8) -> u64
     ensures { λ r. ⌜ r ≡ Rattle.plain.specs.Names.lower b ⌝ }
 {
-    if b >= 65 {
-        if b <= 90 {
-            return (b as u64) + 32;
-        }
+    if b < 65 {
+        return b as u64;
+    }
+    if b <= 90 {
+        return (b as u64) + 32;
     }
     b as u64
 }
@@ -135,10 +136,11 @@ pub fn key_at(text: &[u8], i: usize, m: usize) -> u64
     if m - i > 5 {
         return 0;
     }
-    if m - i == 1 {
-        if text[i] == 0x4B {
-            return 0x4B;
-        }
+    if m - i != 1 {
+        return key_of(text, i, m);
+    }
+    if text[i] == 0x4B {
+        return 0x4B;
     }
     key_of(text, i, m)
 }
@@ -211,29 +213,45 @@ fn long_or(l: lists::Found, k: Kept) -> Kept
     }
 }
 
-fn pair_of(kind: u32, all: bool, count: usize, w: [u32; 7]) -> Kept
-    ensures { λ r. ⌜ r ≡ pairTag kind all count w ⌝ }
+fn paired(kind: u32, n: lists::Numbers) -> Kept
+    ensures { λ r. ⌜ r ≡ pairTag kind (n .all) (n .count) (n .words) ⌝ }
 {
-    if all {
-        if count == 2 {
+    let w = n.words;
+    if n.all {
+        if n.count == 2 {
             return Kept::Tag(record(kind, w[0], w[1], 0, 0, 0, 0, 0));
         }
     }
     Kept::No
 }
 
-fn move_of(all: bool, count: usize, w: [u32; 7]) -> Kept
-    ensures { λ r. ⌜ r ≡ moveTag all count w ⌝ }
+fn pair_of(kind: u32, n: lists::Numbers) -> Kept
+    ensures { λ r. ⌜ r ≡ longOr (n .«too_long») (pairTag kind (n .all) (n .count) (n .words)) ⌝ }
 {
-    if all {
-        if count == 4 {
+    let l = n.too_long;
+    long_or(l, paired(kind, n))
+}
+
+fn moved(n: lists::Numbers) -> Kept
+    ensures { λ r. ⌜ r ≡ moveTag (n .all) (n .count) (n .words) ⌝ }
+{
+    let w = n.words;
+    if n.all {
+        if n.count == 4 {
             return Kept::Tag(record(4, w[0], w[1], w[2], w[3], 0, 0, 0));
         }
-        if count == 6 {
+        if n.count == 6 {
             return Kept::Tag(record(4, w[0], w[1], w[2], w[3], 1, time_of(w[4]), time_of(w[5])));
         }
     }
     Kept::No
+}
+
+fn move_of(n: lists::Numbers) -> Kept
+    ensures { λ r. ⌜ r ≡ longOr (n .«too_long») (moveTag (n .all) (n .count) (n .words)) ⌝ }
+{
+    let l = n.too_long;
+    long_or(l, moved(n))
 }
 
 fn not_below_zero(w: u32) -> u32
@@ -255,11 +273,12 @@ fn is_far(w: u32) -> bool
     if w <= 1000000000 { false } else { w < 3294967296 }
 }
 
-fn fad_of(all: bool, count: usize, w: [u32; 7]) -> Kept
-    ensures { λ r. ⌜ r ≡ fadTag all count w ⌝ }
+fn fad_of(n: lists::Numbers) -> Kept
+    ensures { λ r. ⌜ r ≡ fadTag (n .all) (n .count) (n .words) ⌝ }
 {
-    if all {
-        if count >= 2 {
+    let w = n.words;
+    if n.all {
+        if n.count >= 2 {
             return Kept::Tag(record(1, not_below_zero(w[0]), not_below_zero(w[1]), 0, 0, 0, 0, 0));
         }
     }
@@ -272,11 +291,12 @@ fn either(a: bool, b: bool) -> bool
     if a { true } else { b }
 }
 
-fn fade_of(all: bool, count: usize, w: [u32; 7]) -> Kept
-    ensures { λ r. ⌜ r ≡ fadeTag all count w ⌝ }
+fn fade_of(n: lists::Numbers) -> Kept
+    ensures { λ r. ⌜ r ≡ fadeTag (n .all) (n .count) (n .words) ⌝ }
 {
-    if all {
-        if count >= 7 {
+    let w = n.words;
+    if n.all {
+        if n.count >= 7 {
             let x = record(2, byte_of(w[0]), byte_of(w[1]), byte_of(w[2]), w[3], w[4], w[5], w[6]);
             if either(is_far(w[3]), either(is_far(w[4]), either(is_far(w[5]), is_far(w[6])))) {
                 return Kept::Far(x);
@@ -399,32 +419,6 @@ fn reset_of(text: &[u8], p: usize, q: usize) -> Kept
     Kept::Tag(record(41, 0, 0, 0, 0, 0, 0, 0))
 }
 
-// A comma list by its shape.
-fn listed(text: &[u8], shape: Shape, p: usize, q: usize) -> Kept
-    requires { ⌜ (p ≤ q) × (q ≤ length (now text)) ⌝ }
-    ensures { λ r. ⌜ r ≡ Rattle.plain.specs.Coded.listedTag shape (now (text .entry)) p q ⌝ }
-{
-    match shape {
-        Shape::Fad => {
-            let n = lists::numbers(text, true, p, q);
-            fad_of(n.all, n.count, n.words)
-        }
-        Shape::Fade => {
-            let n = lists::numbers(text, true, p, q);
-            fade_of(n.all, n.count, n.words)
-        }
-        Shape::Move => {
-            let n = lists::numbers(text, false, p, q);
-            long_or(n.too_long, move_of(n.all, n.count, n.words))
-        }
-        Shape::Pair(kind) => {
-            let n = lists::numbers(text, false, p, q);
-            long_or(n.too_long, pair_of(kind, n.all, n.count, n.words))
-        }
-        _ => Kept::No,
-    }
-}
-
 // A parameter by its shape.
 fn shaped(text: &[u8], shape: Shape, p: usize, q: usize) -> Kept
     requires { ⌜ (p ≤ q) × (q ≤ length (now text)) × (q < 2 ^ 32) ⌝ }
@@ -432,17 +426,20 @@ fn shaped(text: &[u8], shape: Shape, p: usize, q: usize) -> Kept
 {
     match shape {
         Shape::Float(kind) => float_tag(kind, numeral::f32_at(text, p, q)),
+        Shape::Pair(kind) => pair_of(kind, lists::numbers_at(text, false, p, q)),
         Shape::Ranged(kind, low, high) => ranged_of(kind, low, high, numeral::i32_at(text, p, q)),
         Shape::Flag(kind) => flag_of(text, kind, p, q),
         Shape::Alpha(kind) => alpha_of(kind, colour::alpha_at(text, p, q)),
         Shape::Colour(kind) => colour_of(kind, colour::colour_at(text, p, q)),
-        Shape::Clip(kind, drawn) => clip_of(kind, drawn, lists::numbers(text, false, p, q), p, q),
+        Shape::Clip(kind, drawn) => clip_of(kind, drawn, lists::numbers_at(text, false, p, q), p, q),
         Shape::Beat(kind) => beat_tag(kind, numeral::f32_at(text, p, q)),
+        Shape::Fad => fad_of(lists::numbers_at(text, true, p, q)),
+        Shape::Fade => fade_of(lists::numbers_at(text, true, p, q)),
+        Shape::Move => move_of(lists::numbers_at(text, false, p, q)),
         Shape::Edge => edge_tag(numeral::f32_at(text, p, q)),
         Shape::Baseline => baseline_tag(numeral::f32_at(text, p, q)),
         Shape::Weight => weight_of(numeral::i32_at(text, p, q)),
         Shape::Reset => reset_of(text, p, q),
-        Shape::Fad | Shape::Fade | Shape::Move | Shape::Pair(_) => listed(text, shape, p, q),
         Shape::Unknown => Kept::No,
     }
 }

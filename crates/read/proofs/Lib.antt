@@ -1,3 +1,4 @@
 pub mod Peeling
 pub mod Walk
 pub mod Turn
+pub mod Answer

@@ -7,7 +7,7 @@ use Prim.Native.Nat.{ℕ, zero, suc, _+_, _-_, _≤_, _<_}
 use native.Mathlib.Omega.{arith}
 use lib.ListN.{getD}
 use lib.Dec.{ltb, eqb}
-use borrow.Author.Tests.{lt-ltb, le-ltb}
+use borrow.Author.Tests.{lt-ltb, le-ltb, ne-eqb}
 use Rattle.scan.specs.Scan.{pick, inClass, trimStart}
 use Rattle.scan.specs.declared.Class.the-variants.{Neither}
 use Rattle.scan.proofs.Laws.{le-or-lt, span-low, skip-low, blank-at-fits}
@@ -39,6 +39,16 @@ peel-fuel s q (suc n) (suc m) i a b =
     (λ (h : q ≤ headEnd s i q). head-last (f32At s i k) i q k (getD s k 0) (peel s q n (trimStart s (k + 1) q)) (peel s q m (trimStart s (k + 1) q)) h)
     (λ (h : headEnd s i q < q). ap (λ (u : Peel). peelHead (f32At s i k) i q k (getD s k 0) u) (peel-fuel s q n m (trimStart s (k + 1) q) (omega arith) (omega arith)))
     (le-or-lt q (headEnd s i q))
+
+pub headed-count : (h : Heads) (w : ℕ) → headed h w .count ≡ h .count + 1
+unfolding headed
+headed-count h w = go (h .count) refl
+  where
+    go : (n : ℕ) → h .count ≡ n → headed h w .count ≡ n + 1
+    go zero e = rw e
+    go (suc zero) e = rw e
+    go (suc (suc zero)) e = rw e
+    go (suc (suc (suc n))) e = rw (e, ne-eqb (suc (suc (suc n))) 0 (λ z. omega arith), ne-eqb (suc (suc (suc n))) 1 (λ z. omega arith), ne-eqb (suc (suc (suc n))) 2 (λ z. omega arith))
 
 -- where the peeling stands: `all` is what it gives, `rest` what is still to come, and h the words so far
 pub record Peeling (all rest : Peel) (h : Heads) : Type 0 where

@@ -6,7 +6,7 @@ use Prim.Native.Nat.{ℕ, zero, suc, _+_, _-_, _*_, _≤_, _<_, min}
 use native.Mathlib.Omega.{arith}
 use native.Mathlib.Nat.{zero-min}
 use native.Mathlib.Numerals.{add-one}
-use lib.Ieee.{Float}
+use lib.Ieee.{Float, toBits}
 use lib.Dec.{ltb, eqb}
 use Rattle.scan.specs.Scan.{trimStart}
 use Rattle.scan.proofs.Laws.{picked}
@@ -73,25 +73,22 @@ peel-backs s q (suc n) i =
     head-backs (f32At s i k) i q k (getD s k 0) u (f32-back s i k) (peel-backs s q n (trimStart s (k + 1) q))
 
 -- from the third number on nothing changes
+headed-full : (n a b c w : ℕ) → 3 ≤ n → headed (record { count = n; w0 = a; w1 = b; w2 = c }) w ≡ record { count = n + 1; w0 = a; w1 = b; w2 = c }
+unfolding headed
+headed-full n a b c w h = simp (ne-eqb n 0 (λ z. omega arith), ne-eqb n 1 (λ z. omega arith), ne-eqb n 2 (λ z. omega arith))
+
 heads-full : (l : List Float) (n a b c m : ℕ) → 3 ≤ n → tWords (headsFrom (record { count = n; w0 = a; w1 = b; w2 = c }) l) m ≡ tWords (record { count = 3; w0 = a; w1 = b; w2 = c }) m
-unfolding headsFrom headed tWords
-heads-full [] n a b c m h =
-    let x = ne-eqb n 0 (λ z. omega arith) in
-    let y = ne-eqb n 1 (λ z. omega arith) in
-    let w = ne-eqb n 2 (λ z. omega arith) in
-    simp (x, y, w)
+unfolding headsFrom tWords
+heads-full [] n a b c m h = simp (ne-eqb n 0 (λ z. omega arith), ne-eqb n 1 (λ z. omega arith), ne-eqb n 2 (λ z. omega arith))
 heads-full (v ∷ l) n a b c m h =
-    let x = ne-eqb n 0 (λ z. omega arith) in
-    let y = ne-eqb n 1 (λ z. omega arith) in
-    let w = ne-eqb n 2 (λ z. omega arith) in
-    rw (x, y, w) (heads-full l (n + 1) a b c m (omega arith))
+    ap (λ (k : Heads). tWords (headsFrom k l) m) (headed-full n a b c (bits v) h) ∙ heads-full l (n + 1) a b c m (omega arith)
 
 cut-back : {x : Float} → Back x → cutWord (bits x) ≡ toWord (timeOf x)
 cut-back e = rw e
 
 -- the record of a \t from the words of its numbers
 t-words : {l : List Float} → Backs l → (n : ℕ) → tWords (headsFrom noHeads l) n ≡ tRecord (headTimes l) (headAccel l) n
-unfolding headsFrom headed tWords
+unfolding headsFrom headed tWords toBits
 t-words none n = refl
 t-words (more e none) n = refl
 t-words (more e (more f none)) n = rw (cut-back e, cut-back f)

@@ -108,3 +108,13 @@ pub t-none : (d : ℕ) (s : List ℕ) (p q : ℕ) → d ≡ 0 → tAt d s p q �
 unfolding tAt
 t-none zero s p q h = refl
 t-none (suc d) s p q h = absurd (omega arith)
+
+-- a block's loop gets on, and has no more tags than bytes
+pub less-left : (a b e : ℕ) → a < b → b ≤ e → e - b < e - a
+less-left a b e h k = omega arith
+
+pub count-step : (from i end p q next n m : ℕ) → from ≤ i → n ≤ i - from → m ≤ q - p + 1 → i < end → end ≤ p → p ≤ q → q ≤ next → n + m ≤ next - from
+count-step from i end p q next n m a b c d e f g = omega arith
+
+pub next-past : (i end p q next : ℕ) → i < end → end ≤ p → p ≤ q → q ≤ next → i < next
+next-past i end p q next a b c d = omega arith

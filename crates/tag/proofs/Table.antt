@@ -95,3 +95,6 @@ laid-step t g rs n m m′ e e′ =
       ∙ ap (λ (l : List ℕ). l ++ laid (drop (length (take m t) + (m′ - m)) (take m t ++ laid (drop m t) g)) rs) tk
       ∙ ap (λ (l : List ℕ). (take m t ++ take (m′ - m) (laid (drop m t) g)) ++ laid l rs) dr)
 
+-- an empty table stays empty
+pub laid-none : (rs : List Record) → laid [] rs ≡ []
+laid-none rs = laid-short [] rs (omega arith)

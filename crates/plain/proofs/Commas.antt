@@ -98,7 +98,7 @@ module _ (s : List ℕ) where
   ints-count (x ∷ l) = ap suc (ints-count l)
 
   int-at : (l : List Part) (n : ℕ) → getD (map wordOf (items true s l)) n 0 ≡ toWord (nthInt (intsIn (i32s s l)) n)
-  unfolding items i32s intsIn toWord
+  unfolding items i32s intsIn
   int-at [] n = refl
   int-at (x ∷ l) zero = word-int (i32At s (x .from) (x .to))
   int-at (x ∷ l) (suc n) = int-at l n

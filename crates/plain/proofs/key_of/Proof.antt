@@ -1,0 +1,66 @@
+use mathlib.Core.Path.{_≡_, refl, sym, _∙_}
+use Prim.Native.Nat.{_+_, _-_, _^_, _≤_, _<_}
+use native.Mathlib.Nat.{sub-self}
+use native.Mathlib.Omega.{arith}
+use borrow.Author.Needs.{needs}
+use lib.Dec.{lit<}
+use Rattle.plain.specs.Names.{key}
+use Rattle.plain.proofs.Keys.{key-end, key-go, lower-small, room, five}
+use Rattle.plain.proofs.key_of.Statement.{statement}
+use Rattle.plain.proofs.key_of.Tie as tie
+
+abbrev Inv-loop : tie.InvT-loop
+Inv-loop text from to i₀ a₀ i a = (from ≤ i) × (i ≤ to) × (a < 256 ^ (i - from)) × (key text (to - from) from 0 ≡ key text (to - i) i a)
+
+abbrev μ-loop : tie.MeasureT-loop
+μ-loop text from to i₀ a₀ i a = to - i
+
+loop-holds : tie.Need-loop-holds Inv-loop μ-loop
+loop-holds c = (search needs, search needs, rw (sub-self (c .before .args .from)) (lit< tt), refl)
+
+mul-a : tie.Need-mul-a Inv-loop μ-loop
+mul-a c = omega (arith, five _ _ (c .before .loop .inv .2) (omega arith))
+
+shared-slice-read-lower : tie.Need-shared-slice-read-lower Inv-loop μ-loop
+shared-slice-read-lower c = search needs
+
+lower-requires : tie.Need-lower-requires Inv-loop μ-loop
+lower-requires c κs = search needs
+
+add-a : tie.Need-add-a Inv-loop μ-loop
+add-a c =
+    let l = c .before .before .before in
+    let b : c .lower .result < 256 = rw (c .lower .ensures) (lower-small _ (c .before .shared-slice-known2 .given (l .loop .i) .fits)) in
+    omega (arith, five _ _ (l .loop .inv .2) (omega arith))
+
+add-i : tie.Need-add-i Inv-loop μ-loop
+add-i c = search needs
+
+loop-less : tie.Need-loop-less Inv-loop μ-loop
+loop-less c = search needs
+
+loop-again : tie.Need-loop-again Inv-loop μ-loop
+loop-again c =
+    let l = c .before .before .before in
+    let b : c .lower .result < 256 = rw (c .lower .ensures) (lower-small _ (c .before .shared-slice-known2 .given (l .loop .i) .fits)) in
+    let e : l .loop .i + 1 - l .before .before .args .from ≡ l .loop .i - l .before .before .args .from + 1 = omega arith in
+    (search needs, search needs, rw e (room _ _ _ (l .loop .inv .2) b), rw (c .lower .ensures) (l .loop .inv .3 ∙ key-go _ _ _ _ (search needs)))
+
+returns : tie.Need-returns Inv-loop μ-loop
+returns c = sym (c .before .loop .inv .3 ∙ key-end _ _ _ _ (search needs))
+
+pub key-of-spec : {M : Type 1} → statement M
+key-of-spec =
+    tie.close
+    (tie.spec
+    Inv-loop
+    μ-loop
+    loop-holds
+    mul-a
+    shared-slice-read-lower
+    lower-requires
+    add-a
+    add-i
+    loop-less
+    loop-again
+    returns)

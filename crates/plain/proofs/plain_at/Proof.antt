@@ -1,0 +1,72 @@
+use mathlib.Core.Path.{sym, _∙_}
+use native.Mathlib.Omega.{arith}
+use Rattle.tag.specs.Table.{records}
+use Rattle.plain.specs.Coded.{fnTag}
+use Rattle.plain.proofs.Keys.{fn-goes-on}
+use Rattle.plain.proofs.Bridge.{bridge}
+use Rattle.plain.specs.Plain.{plainAt}
+use borrow.Author.Needs.{needs}
+use Rattle.plain.proofs.plain_at.Statement.{statement}
+use Rattle.plain.proofs.plain_at.Tie as tie
+
+is-fn-requires : tie.Need-is-fn-requires
+is-fn-requires c κs = search needs
+
+fn-tag-requires : tie.Need-fn-tag-requires
+fn-tag-requires c κs =
+    let h = fn-goes-on _ _ _ (sym (c .before .is-fn .ensures) ∙ c .if1 .taken) in
+    search needs
+
+returns : tie.Need-returns
+unfolding plainAt fnTag records
+returns c = rw (← c .before .before .is-fn .ensures, c .before .if1 .taken, c .fn-tag .ensures)
+
+is-named-reset-requires : tie.Need-is-named-reset-requires
+is-named-reset-requires c κs = search needs
+
+add-part-of : tie.Need-add-part-of
+add-part-of c = search needs
+
+part-of-requires : tie.Need-part-of-requires
+part-of-requires c κs = search needs
+
+record-requires : tie.Need-record-requires
+record-requires c κs = search needs
+
+returns-2 : tie.Need-returns-2
+unfolding plainAt records
+returns-2 c =
+    let b = c .before .before .before in
+    rw (← b .before .before .is-fn .ensures, b .before .if1 .left, ← b .is-named-reset .ensures, c .before .before .if2 .taken, c .«record» .ensures, c .before .part-of .ensures)
+
+key-at-requires : tie.Need-key-at-requires
+key-at-requires c κs = search needs
+
+shape-of-requires : tie.Need-shape-of-requires
+shape-of-requires c κs = search needs
+
+shaped-requires : tie.Need-shaped-requires
+shaped-requires c κs = search needs
+
+returns-3 : tie.Need-returns-3
+unfolding plainAt
+returns-3 c =
+    let b = c .before .before .before .before in
+    rw (← b .before .before .is-fn .ensures, b .before .if1 .left, ← b .is-named-reset .ensures, c .before .before .before .if2 .left, c .shaped .ensures, c .before .shape-of .ensures, c .before .before .key-at .ensures) (bridge _ _ _ _)
+
+pub plain-at-spec : {M : Type 1} → statement M
+plain-at-spec =
+    tie.close
+    (tie.spec
+    is-fn-requires
+    fn-tag-requires
+    returns
+    is-named-reset-requires
+    add-part-of
+    part-of-requires
+    record-requires
+    returns-2
+    key-at-requires
+    shape-of-requires
+    shaped-requires
+    returns-3)

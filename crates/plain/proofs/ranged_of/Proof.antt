@@ -1,0 +1,53 @@
+use borrow.Author.Tests.{le-leb, lt-leb}
+use Rattle.plain.specs.Coded.{rangedTag}
+use borrow.Author.Needs.{needs}
+use Rattle.plain.proofs.ranged_of.Statement.{statement}
+use Rattle.plain.proofs.ranged_of.Tie as tie
+
+enum-known-n : tie.Need-enum-known-n
+enum-known-n c = search needs
+
+record-requires : tie.Need-record-requires
+record-requires c κs = search needs
+
+returns : tie.Need-returns
+unfolding rangedTag
+returns c =
+    let b = c .before .before in
+    rw (b .before .before .n .given .1, le-leb _ _ (b .if1 .taken), le-leb _ _ (c .before .if2 .taken), c .«record» .ensures)
+
+enum-told : tie.Need-enum-told
+enum-told c = search needs
+
+enum-told-2 : tie.Need-enum-told-2
+enum-told-2 c = search needs
+
+returns-2 : tie.Need-returns-2
+unfolding rangedTag
+returns-2 c = rw (c .before .before .before .n .given .1, le-leb _ _ (c .before .if1 .taken), lt-leb _ _ (c .if2 .left))
+
+returns-3 : tie.Need-returns-3
+unfolding rangedTag
+returns-3 c = rw (c .before .before .n .given .1, lt-leb _ _ (c .if1 .left))
+
+returns-4 : tie.Need-returns-4
+unfolding rangedTag
+returns-4 c = search needs
+
+returns-5 : tie.Need-returns-5
+unfolding rangedTag
+returns-5 c = search needs
+
+pub ranged-of-spec : {M : Type 1} → statement M
+ranged-of-spec =
+    tie.close
+    (tie.spec
+    enum-known-n
+    record-requires
+    returns
+    enum-told
+    enum-told-2
+    returns-2
+    returns-3
+    returns-4
+    returns-5)

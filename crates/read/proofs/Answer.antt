@@ -1,0 +1,58 @@
+-- The answer and the table, from the two runs of the reader.
+use mathlib.Core.Path.{_≡_, refl, sym, ap, _∙_}
+use mathlib.Core.List.{List, [], _∷_, _++_}
+use mathlib.Core.Bool.{Bool, true, false}
+use mathlib.Core.Logic.{⊎-elim}
+use Prim.Native.Nat.{ℕ, _+_, _*_, _/_, _≤_, _<_}
+use native.Mathlib.Omega.{arith}
+use lib.Dec.{ltb, leb}
+use lib.ListN.{length}
+use borrow.Author.Tests.{lt-ltb}
+use Rattle.scan.specs.Scan.{pick}
+use Rattle.scan.proofs.Laws.{le-or-lt}
+use Rattle.refusal.specs.Refusal.{mostBytes}
+use Rattle.refusal.specs.declared.Refusal.{Refusal}
+use Rattle.tag.specs.Table.{encode, laid}
+use Rattle.tag.proofs.Table.{laid-none}
+use Rattle.read.specs.declared.Out.{Out}
+use Rattle.read.specs.declared.Reading.{Reading}
+use Rattle.read.specs.declared.Reading.the-variants.{Read, Refused}
+use Rattle.read.specs.declared.Checked.{Checked}
+use Rattle.read.specs.declared.Checked.the-variants.{Good, Bad}
+use Rattle.read.specs.declared.Span.{Span}
+use Rattle.read.specs.Reading.{Told, textGround, readGround, blockOf, answer, after, Answered}
+
+-- a text with no ground 1 is short
+pub good-short : (s : List ℕ) → textGround s ≡ Good → length s ≤ mostBytes
+unfolding textGround
+good-short s e =
+    ⊎-elim
+    (λ (h : length s ≤ mostBytes). h)
+    (λ (h : mostBytes < length s). absurd (let z : _≡_ {A = ℕ} 0 1 = cc (rw (lt-ltb mostBytes (length s) h) at e) in omega arith))
+    (le-or-lt (length s) mostBytes)
+
+module _ (s : List ℕ) (x : Span) (t : List ℕ) where
+  pub text-refused : (r : Refusal) → textGround s ≡ Bad r → Answered s x t (Refused r) t
+  unfolding answer after
+  text-refused r e = record { reading = rw e; table = rw e }
+
+  module _ (l : List ℕ) (seen : Out) (m : ℕ) (good : textGround s ≡ Good) (a : Told [] (blockOf s x) m seen l) where
+    -- the dry run leaves the table as it was
+    dry : l ++ t ≡ t
+    dry = rw (a .table, laid-none (encode (blockOf s x .tags)))
+
+    is-answer : (r : Reading) → readGround (seen .long) (seen .far) (seen .n) (length (l ++ t) / 8) ≡ r → r ≡ answer s x (length t / 8)
+    unfolding answer
+    is-answer r e = sym (rw good (rw (dry, a .out) at e))
+
+    pub refused : (r : Refusal) → readGround (seen .long) (seen .far) (seen .n) (length (l ++ t) / 8) ≡ Refused r → Answered s x t (Refused r) (l ++ t)
+    unfolding after
+    refused r e =
+        let k = is-answer (Refused r) e in
+        record { reading = k; table = rw (← k) dry }
+
+    pub done : (n : ℕ) (m′ : ℕ) (o : Out) (u : List ℕ) → readGround (seen .long) (seen .far) (seen .n) (length (l ++ t) / 8) ≡ Read n → Told (l ++ t) (blockOf s x) m′ o u → Answered s x t (Read n) u
+    unfolding after
+    done n m′ o u e b =
+        let k = is-answer (Read n) e in
+        record { reading = k; table = rw (← k) (rw dry at (b .table)) }

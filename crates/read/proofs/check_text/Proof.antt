@@ -1,0 +1,26 @@
+use Rattle.read.specs.Reading.{textGround}
+use borrow.Author.Tests.{le-leb, lt-leb, eq-eqb, ne-eqb, lt-ltb, le-ltb}
+use borrow.Author.Needs.{needs}
+use Rattle.read.proofs.check_text.Statement.{statement}
+use Rattle.read.proofs.check_text.Tie as tie
+use Rattle.read.proofs.check_text.Reads as reads
+use Rattle.read.proofs.check_text.Lts as lts
+use Rattle.scan.proofs.span.Reads as span-reads
+
+returns : tie.Need-returns
+unfolding textGround
+returns c = rw (lt-ltb _ _ (c .if1 .taken))
+
+span-requires : tie.Need-span-requires
+span-requires c κs = search needs
+
+returns-2 : tie.Need-returns-2
+unfolding textGround
+returns-2 c = rw (le-ltb _ _ (c .before .before .if1 .left), ← c .before .span .ensures .is, lt-ltb _ _ (c .if2 .taken))
+
+returns-3 : tie.Need-returns-3
+unfolding textGround
+returns-3 c = rw (le-ltb _ _ (c .before .before .if1 .left), ← c .before .span .ensures .is, le-ltb _ _ (c .if2 .left))
+
+pub check-text-spec : {M : Type 1} → statement M
+check-text-spec = tie.close (tie.spec returns span-requires returns-2 returns-3)

@@ -1,0 +1,59 @@
+use Rattle.read.specs.Block.{paramAt}
+use mathlib.Core.Path.{_≡_, refl, sym, _∙_, ap}
+use mathlib.Core.Logic.{⊎-elim}
+use borrow.Author.Tests.{le-leb, lt-leb, eq-eqb, ne-eqb, lt-ltb, le-ltb}
+use borrow.Author.Needs.{needs}
+use Rattle.read.proofs.param_at.Statement.{statement}
+use Rattle.read.proofs.param_at.Tie as tie
+use Rattle.read.proofs.param_at.Reads as reads
+use Rattle.read.proofs.param_at.Lts as lts
+use Rattle.scan.proofs.closing.Reads as closing-reads
+use Rattle.scan.proofs.span.Reads as span-reads
+
+shared-slice-read-if2 : tie.Need-shared-slice-read-if2
+shared-slice-read-if2 c = search needs
+
+add-closing : tie.Need-add-closing
+add-closing c = search needs
+
+closing-requires : tie.Need-closing-requires
+closing-requires c κs = search needs
+
+add-t13 : tie.Need-add-t13
+add-t13 c = search needs
+
+add-t14 : tie.Need-add-t14
+add-t14 c = search needs
+
+returns : tie.Need-returns
+unfolding paramAt
+returns c = record { is = rw (lt-ltb _ _ (c .before .before .before .before .if1 .taken), eq-eqb _ _ (c .before .before .if2 .taken), ← c .before .closing .ensures .is, lt-ltb _ _ (c .if3 .taken)); name-is = refl; end-is = refl; low = search needs; order = search needs; next-low = search needs; high = search needs }
+
+add-t11 : tie.Need-add-t11
+add-t11 c = search needs
+
+returns-2 : tie.Need-returns-2
+unfolding paramAt
+returns-2 c = record { is = rw (lt-ltb _ _ (c .before .before .before .before .if1 .taken), eq-eqb _ _ (c .before .before .if2 .taken), ← c .before .closing .ensures .is, le-ltb _ _ (c .if3 .left)); name-is = refl; end-is = refl; low = search needs; order = search needs; next-low = search needs; high = search needs }
+
+span-requires : tie.Need-span-requires
+span-requires c κs = search needs
+
+returns-3 : tie.Need-returns-3
+unfolding paramAt
+returns-3 c = record { is = ⊎-elim (λ w. rw (lt-ltb _ _ (w .0 .taken), ne-eqb _ _ (w .2 .left), ← c .span .ensures .is)) (λ w. rw (le-ltb _ _ (w .left), ← c .span .ensures .is)) (c .before .if1 .came); name-is = refl; end-is = refl; low = search needs; order = search needs; next-low = search needs; high = search needs }
+
+pub param-at-spec : {M : Type 1} → statement M
+param-at-spec =
+    tie.close
+    (tie.spec
+    shared-slice-read-if2
+    add-closing
+    closing-requires
+    add-t13
+    add-t14
+    returns
+    add-t11
+    returns-2
+    span-requires
+    returns-3)
