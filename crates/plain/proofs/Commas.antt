@@ -1,5 +1,5 @@
 -- A comma list as the code has it, its words, against the numbers that it holds.
-use mathlib.Core.Path.{_≡_, refl, sym, ap, _∙_}
+use mathlib.Core.Path.{_≡_, refl, ap, _∙_}
 use mathlib.Core.Bool.{Bool, true, false}
 use mathlib.Core.List.{List, [], _∷_, map}
 use Prim.Native.Nat.{ℕ, zero, suc, _+_, _<_}
@@ -16,7 +16,7 @@ use Rattle.numeral.specs.declared.Numeral.{Numeral}
 use Rattle.lists.specs.declared.Numbers.{Numbers}
 use Rattle.lists.specs.Lists.{Part, parts, items, wordOf, isWord, allWords, filled}
 use Rattle.tag.specs.Table.{bits}
-use Rattle.plain.specs.Plain.{isNumber, isWhole, floatOf, f32s, allFloats, floatsIn, nth, i32s, allInts, intsIn, nthInt}
+use Rattle.plain.specs.Plain.{isNumber, isWhole, f32s, allFloats, floatsIn, nth, i32s, allInts, intsIn, nthInt}
 use Rattle.plain.specs.Coded.{nthWord, numbersAt}
 use Rattle.plain.proofs.Numbers.{Back, f32-back, zero-back, word-float, Small, i32-small, zero-small, word-int}
 

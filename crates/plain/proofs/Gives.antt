@@ -1,8 +1,8 @@
 -- What the code keeps, against what a tag gives: the tag's one record.
-use mathlib.Core.Path.{_≡_, refl, sym, ap, _∙_}
+use mathlib.Core.Path.{_≡_, refl}
 use mathlib.Core.Bool.{Bool, true, false}
 use mathlib.Core.List.{List, [], _∷_}
-use Prim.Native.Nat.{ℕ, zero, suc, _-_, _≤_, _<_}
+use Prim.Native.Nat.{ℕ, suc, _-_, _≤_, _<_}
 use native.Mathlib.Omega.{arith}
 use lib.Dec.{leb, ltb, eqb, lit<}
 use lib.IntN.{ℤ, pos, negsuc}
@@ -10,23 +10,22 @@ use lib.Ieee.{Float}
 use lib.ListN.{length, getD}
 use borrow.Author.Tests.{lt-leb, ne-eqb}
 use Rattle.scan.specs.Scan.{pick, trimStart, trimEnd}
-use Rattle.float.specs.Float.{toWord}
 use Rattle.numeral.specs.Numeral.{F32, tooLong, number, f32At, I32, whole, wordOfF32, wordOfI32}
 use Rattle.lists.specs.Lists as Lists
 use Rattle.lists.specs.Lists.{Part, items, longOf, firstOf}
 use Rattle.lists.specs.declared.Numbers.{Numbers}
 use Rattle.lists.specs.declared.Found.{Found}
 use Rattle.tag.specs.declared.Record.{Record}
-use Rattle.tag.specs.Tag as Tag
 use Rattle.tag.specs.Tag.{AnimatedTag, R, plain, named}
-use Rattle.tag.specs.Table.{rec, records, twoFloats, fourFloats, oneNumber, partRecord, flagWord}
+use Rattle.tag.specs.Table.{rec, records, twoFloats, oneNumber, flagWord}
 use Rattle.plain.specs.declared.Kept.{Kept}
 use Rattle.plain.specs.declared.Kept.the-variants as Kept
 use Rattle.plain.specs.Plain.{One, no, long, kept, far, part, f32s, firstLong, pairOf, moveOf, fadOf, fadeOf, rangedOf, weightOf, flagOf, resetOf, intOf, nthInt, isFar}
-use Rattle.plain.specs.Coded.{recordOf, keptOf, longOr, nthWord, pairTag, moveTag, fadTag, fadeTag, rangedTag, weightTag, flagTag, drawingTag, resetTag}
+use Rattle.plain.specs.Coded.{recordOf, keptOf, longOr, pairTag, moveTag, fadTag, fadeTag, rangedTag, weightTag, flagTag, resetTag}
 use Rattle.plain.proofs.Numbers.{Small, high, clip-word, byte-word, far-word}
 use Rattle.plain.proofs.Commas.{Floats, Ints}
 
+-- nothing, a numeral that is too long, a tag, a \fade whose times lie too far off
 pub data Gives : Kept → One → Type 0 where
   nothing : Gives Kept.No no
   late : (p : ℕ) → Gives (Kept.Long p) (long p)
@@ -76,31 +75,47 @@ module _ (k : Kept) (o : One) where
   gives-long s (x ∷ l) g = long-step (f32At s (x .from) (x .to)) (f32s s l) (Lists.firstLong (items false s l)) (gives-long s l g)
 
 module _ (n : Numbers) where
-  pub gives-pair : (f : Float → Float → AnimatedTag) (k : ℕ) → ((x y : Float) → records (f x y) ≡ twoFloats k x y) → (b : Bool) (l : List Float) → Floats n b l → Gives (pairTag k (n .all) (n .count) (n .words)) (pairOf f (pick b l []))
+  pub gives-pair : (f : Float → Float → AnimatedTag) (k : ℕ) → ((x y : Float) → records (f x y) ≡ twoFloats k x y) → {b : Bool} {l : List Float} → Floats n b l → Gives (pairTag k (n .all) (n .count) (n .words)) (pairOf f (pick b l []))
   unfolding pairTag pairOf
-  gives-pair f k h false l r = rw (r .all) nothing
-  gives-pair f k h true l r = rw (r .all, r .count, r .words 0 (lit< tt), r .words 1 (lit< tt)) (gives-pick (eqb (length l) 2) (tag (h _ _)) nothing)
+  gives-pair f k h {b = false} r = rw (r .all) nothing
+  gives-pair f k h {b = true} {l} r = rw (r .all, r .count, r .words 0 (lit< tt), r .words 1 (lit< tt)) (gives-pick (eqb (length l) 2) (tag (h _ _)) nothing)
 
-  pub gives-move : (b : Bool) (l : List Float) → Floats n b l → Gives (moveTag (n .all) (n .count) (n .words)) (moveOf (pick b l []))
+  pub gives-move : {b : Bool} {l : List Float} → Floats n b l → Gives (moveTag (n .all) (n .count) (n .words)) (moveOf (pick b l []))
   unfolding moveTag moveOf records
-  gives-move false l r = rw (r .all) nothing
-  gives-move true l r =
+  gives-move {b = false} r = rw (r .all) nothing
+  gives-move {b = true} {l} r =
       rw (r .all, r .count, r .words 0 (lit< tt), r .words 1 (lit< tt), r .words 2 (lit< tt), r .words 3 (lit< tt), r .words 4 (lit< tt), r .words 5 (lit< tt), r .fine 4, r .fine 5)
       (gives-pick (eqb (length l) 4) (tag refl) (gives-pick (eqb (length l) 6) (tag refl) nothing))
 
-  pub gives-fad : (b : Bool) (l : List ℤ) → Ints n b l → Gives (fadTag (n .all) (n .count) (n .words)) (fadOf (pick b l []))
+  pub gives-fad : {b : Bool} {l : List ℤ} → Ints n b l → Gives (fadTag (n .all) (n .count) (n .words)) (fadOf (pick b l []))
   unfolding fadTag fadOf records
-  gives-fad false l r = rw (r .all) nothing
-  gives-fad true l r =
+  gives-fad {b = false} r = rw (r .all) nothing
+  gives-fad {b = true} {l} r =
       rw (r .all, r .count, r .words 0 (lit< tt), r .words 1 (lit< tt), clip-word _ (r .fine 0), clip-word _ (r .fine 1))
       (gives-pick (leb 2 (length l)) (tag refl) nothing)
 
-  pub gives-fade : (b : Bool) (l : List ℤ) → Ints n b l → Gives (fadeTag (n .all) (n .count) (n .words)) (fadeOf (pick b l []))
+  pub gives-fade : {b : Bool} {l : List ℤ} → Ints n b l → Gives (fadeTag (n .all) (n .count) (n .words)) (fadeOf (pick b l []))
   unfolding fadeTag fadeOf records
-  gives-fade false l r = rw (r .all) nothing
-  gives-fade true l r =
-      rw (r .all, r .count, r .words 0 (lit< tt), r .words 1 (lit< tt), r .words 2 (lit< tt), r .words 3 (lit< tt), r .words 4 (lit< tt), r .words 5 (lit< tt), r .words 6 (lit< tt),
-      byte-word _ (r .fine 0), byte-word _ (r .fine 1), byte-word _ (r .fine 2), far-word _ (r .fine 3), far-word _ (r .fine 4), far-word _ (r .fine 5), far-word _ (r .fine 6))
+  gives-fade {b = false} r = rw (r .all) nothing
+  gives-fade {b = true} {l} r =
+      rw (
+        r .all,
+        r .count,
+        r .words 0 (lit< tt),
+        r .words 1 (lit< tt),
+        r .words 2 (lit< tt),
+        r .words 3 (lit< tt),
+        r .words 4 (lit< tt),
+        r .words 5 (lit< tt),
+        r .words 6 (lit< tt),
+        byte-word _ (r .fine 0),
+        byte-word _ (r .fine 1),
+        byte-word _ (r .fine 2),
+        far-word _ (r .fine 3),
+        far-word _ (r .fine 4),
+        far-word _ (r .fine 5),
+        far-word _ (r .fine 6),
+      )
       (gives-pick (leb 7 (length l)) (gives-pick (pick (isFar (nthInt l 3)) true (pick (isFar (nthInt l 4)) true (pick (isFar (nthInt l 5)) true (isFar (nthInt l 6))))) (away refl) (tag refl)) nothing)
 
 -- ---- one whole number

@@ -1,21 +1,18 @@
 -- The numbers that a text gives, and what their words say of them.
-use mathlib.Core.Path.{_≡_, refl, sym, ap, _∙_}
+use mathlib.Core.Path.{_≡_, refl}
 use mathlib.Core.Bool.{Bool, true, false}
 use mathlib.Core.List.{List}
-use mathlib.Core.Logic.{_⊎_, ⊎-elim, inl, inr}
-use Prim.Native.Nat.{ℕ, zero, suc, _+_, _-_, _≤_, _<_}
+use mathlib.Core.Logic.{⊎-elim}
+use Prim.Native.Nat.{ℕ, zero, suc, _-_, _≤_, _<_}
 use native.Mathlib.Omega.{arith}
-use lib.Dec.{T, leb, ltb, eqb, lit<}
+use lib.Dec.{leb, eqb, lit<}
 use lib.IntN.{ℤ, pos, negsuc, negℤ}
-use lib.Ieee.{Float, binary32, fits, toBits, ofBits}
-use lib.Ieee.Bits.{ofBits-toBits}
-use lib.Ieee.Fits.{round-fits}
+use lib.Ieee.{Float, binary32, toBits, ofBits}
 use borrow.Author.Tests.{lt-ltb, le-ltb, le-leb, lt-leb, leb-true}
 use Rattle.scan.specs.Scan.{pick, past, trimStart, trimEnd}
 use Rattle.scan.proofs.Laws.{picked, le-or-lt}
 use Rattle.float.specs.Float.{zero as plusZero, toWord}
-use Rattle.numeral.specs.Numeral as Numeral
-use Rattle.numeral.specs.Numeral.{F32, tooLong, number, f32Of, f32At, splitAt, exponentAt, isSign, isMinus, wholeNumber, I32, whole, i32Of, i32At, wordOfF32, wordOfI32}
+use Rattle.numeral.specs.Numeral.{F32, tooLong, number, f32Of, f32At, isSign, isMinus, wholeNumber, I32, whole, i32Of, i32At, wordOfF32, wordOfI32}
 use Rattle.numeral.proofs.Reach.{number-in-reach}
 use Rattle.lists.specs.Lists.{wordOf}
 use Rattle.tag.specs.Table.{bits}
@@ -68,16 +65,15 @@ above v false e = zero-small
 above zero true e = zero-small
 above (suc v) true e = omega (arith, leb-true (suc v) 2147483648 e)
 
-pub i32-small : (s : List ℕ) (p q : ℕ) → SmallIn (i32At s p q)
-unfolding i32Of
-i32-small s p q =
-    let a = trimStart s p q in
-    go s a (trimEnd s a q)
-  where
-    go : (s : List ℕ) (a b : ℕ) → SmallIn (i32Of s a b)
-    go s a b =
-        let v = wholeNumber 10 s (past isSign s a b) b in
-        picked SmallIn (eqb (past isMinus s a b) a) (pick (leb v 2147483647) (whole (pos v)) I32.none) (pick (leb v 2147483648) (whole (negℤ (pos v))) I32.none) (below v _ refl) (above v _ refl)
+module _ (s : List ℕ) where
+  small-of : (a b : ℕ) → SmallIn (i32Of s a b)
+  unfolding i32Of
+  small-of a b =
+      let v = wholeNumber 10 s (past isSign s a b) b in
+      picked SmallIn (eqb (past isMinus s a b) a) (pick (leb v 2147483647) (whole (pos v)) I32.none) (pick (leb v 2147483648) (whole (negℤ (pos v))) I32.none) (below v _ refl) (above v _ refl)
+
+  pub i32-small : (p q : ℕ) → Small (intOf (i32At s p q))
+  i32-small p q = small-of (trimStart s p q) (trimEnd s (trimStart s p q) q)
 
 pub word-int : (x : I32) → wordOf (wordOfI32 x) ≡ toWord (intOf x)
 word-int I32.none = refl
@@ -95,16 +91,15 @@ pub byte-word : (z : ℤ) → Small z → byteWord (toWord z) ≡ byteOf z
 byte-word z h = rw (clip-word z h)
 
 pub far-word : (z : ℤ) → Small z → farWord (toWord z) ≡ isFar z
-far-word (pos n) h = go (le-or-lt n 1000000000)
-  where
-    go : (n ≤ 1000000000) ⊎ (1000000000 < n) → pick (leb n 1000000000) false (leb (suc n) 3294967296) ≡ leb 1000000001 n
-    go (inl l) = rw (le-leb n 1000000000 l, le-ltb 1000000000 n l)
-    go (inr l) = rw (lt-leb n 1000000000 l, lt-ltb 1000000000 n l, lt-ltb n 3294967296 (omega arith))
-far-word (negsuc n) h =
+far-word (pos n) h =
     ⊎-elim
-    (λ (l : 1000000000 ≤ n). rw (lt-leb _ 1000000000 high, le-leb 1000000000 n l, lt-ltb (4294967296 - suc n) 3294967296 (omega arith)))
-    (λ (l : n < 1000000000). rw (lt-leb _ 1000000000 high, lt-leb 1000000000 n l, le-ltb (4294967296 - suc n) 3294967296 (omega arith)))
+    (λ (l : n ≤ 1000000000). rw (le-leb n 1000000000 l, le-ltb 1000000000 n l))
+    (λ (l : 1000000000 < n). rw (lt-leb n 1000000000 l, lt-ltb 1000000000 n l, lt-ltb n 3294967296 (omega arith)))
+    (le-or-lt n 1000000000)
+far-word (negsuc n) h =
+    let w = 4294967296 - suc n in
+    let m : 1000000000 < w = omega arith in
+    ⊎-elim
+    (λ (l : 1000000000 ≤ n). rw (lt-leb w 1000000000 m, le-leb 1000000000 n l, lt-ltb w 3294967296 (omega arith)))
+    (λ (l : n < 1000000000). rw (lt-leb w 1000000000 m, lt-leb 1000000000 n l, le-ltb w 3294967296 (omega arith)))
     (le-or-lt 1000000000 n)
-  where
-    high : 1000000000 < 4294967296 - suc n
-    high = omega arith

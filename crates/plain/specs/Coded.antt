@@ -19,7 +19,7 @@ use Rattle.colour.specs.declared.Colour as C
 use Rattle.colour.specs.declared.Colour.the-variants.{Rgb}
 use Rattle.tag.specs.declared.Record.{Record}
 use Rattle.tag.specs.Tag as Tag
-use Rattle.tag.specs.Tag.{AnimatedTag, KaraokeKind}
+use Rattle.tag.specs.Tag.{AnimatedTag}
 use Rattle.tag.specs.Table.{rec, records, kindWord}
 use Rattle.plain.specs.declared.Shape as Code
 use Rattle.plain.specs.declared.Shape.the-variants.{Float, Pair, Ranged, Flag, Alpha, Colour, Clip, Beat, Fad, Fade, Move, Edge, Baseline, Weight, Reset, Unknown}

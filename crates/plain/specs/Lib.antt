@@ -1,3 +1,4 @@
 pub mod Names
 pub mod Plain
 pub mod Coded
+pub mod Sheet

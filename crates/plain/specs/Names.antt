@@ -1,6 +1,6 @@
 -- The tag reference: each tag's name, the shape of its parameter, and the tag that it makes.
 use mathlib.Core.List.{List, [], _∷_}
-use mathlib.Core.Bool.{Bool, true, false}
+use mathlib.Core.Bool.{Bool}
 use Prim.Native.Nat.{ℕ, zero, suc, _+_, _-_, _*_}
 use lib.Dec.{leb, eqb}
 use lib.Ieee.{Float}

@@ -1,8 +1,7 @@
 -- One tag, \t apart: Rust's `parse_one`, by positions. The name stands from i to m, its parameter from p to q.
-use mathlib.Core.Path.{_≡_, refl}
 use mathlib.Core.List.{List, [], _∷_}
 use mathlib.Core.Bool.{Bool, true, false}
-use Prim.Native.Nat.{ℕ, zero, suc, _+_, _-_, _≤_, min}
+use Prim.Native.Nat.{ℕ, _+_, _-_, min}
 use lib.Dec.{leb, ltb, eqb}
 use lib.IntN.{ℤ, pos, negsuc}
 use lib.Ieee.{Float, toSigned}
@@ -13,13 +12,11 @@ use Rattle.numeral.specs.Numeral.{F32, number, tooLong, f32At, I32, whole, i32A
 use Rattle.numeral.specs.declared.Numeral.{Numeral}
 use Rattle.numeral.specs.declared.Numeral.the-variants.{No, TooLong, Word}
 use Rattle.lists.specs.Lists.{Part, parts}
-use Rattle.lists.specs.declared.Found.{Found}
-use Rattle.lists.specs.declared.Found.the-variants.{Nowhere, At}
 use Rattle.colour.specs.Colour.{alphaAt, colourAt}
 use Rattle.colour.specs.declared.Colour.{Colour}
 use Rattle.colour.specs.declared.Colour.the-variants.{Rgb}
 use Rattle.tag.specs.Tag as Tag
-use Rattle.tag.specs.Tag.{AnimatedTag, Times, absent, times, KaraokeKind, Fad, Fade, Move, Be, Pbo, B, R, Fn, Karaoke, Reset, plain, named}
+use Rattle.tag.specs.Tag.{AnimatedTag, absent, times, KaraokeKind, Fad, Fade, Move, Be, Pbo, B, R, Fn, Karaoke, plain, named}
 use Rattle.plain.specs.Names.{Shape, float, pair, ranged, flag, alpha, colour, clip, beat, fad, fade, move, edge, baseline, weight, reset, unknown, names, lookup, key, keyAt}
 
 -- what a tag gives: nothing, a numeral that is too long with its place, a tag, or a \fade whose times lie too far off

@@ -1,8 +1,6 @@
 // One tag of a block, \t apart: its name, its parameter, its record.
 ghost use mathlib.Core.Path.{_≡_};
-ghost use Prim.Native.Nat.{_+_, _-_, _^_, _≤_, _<_, min};
-ghost use lib.Ieee as Ieee;
-ghost use lib.Ieee.{binary32};
+ghost use Prim.Native.Nat.{_+_, _-_, _^_, _≤_, _<_};
 ghost use lib.ListN.{length};
 ghost use Rattle.tag.specs.Table.{rec};
 ghost use Rattle.plain.specs.Names.{key as keyOf, keyAt, lookup, names};
@@ -148,7 +146,16 @@ pub fn key_at(text: &[u8], i: usize, m: usize) -> u64
 fn record(kind: u32, w1: u32, w2: u32, w3: u32, w4: u32, w5: u32, w6: u32, w7: u32) -> tag::Record
     ensures { λ r. ⌜ r ≡ rec kind w1 w2 w3 w4 w5 w6 w7 ⌝ }
 {
-    tag::Record { kind, w1, w2, w3, w4, w5, w6, w7 }
+    tag::Record {
+        kind,
+        w1,
+        w2,
+        w3,
+        w4,
+        w5,
+        w6,
+        w7,
+    }
 }
 
 fn float_tag(kind: u32, n: numeral::Numeral) -> Kept
@@ -178,7 +185,10 @@ fn edge_tag(n: numeral::Numeral) -> Kept
     ensures { λ r. ⌜ r ≡ keepWord (λ w. rec 22 (edgeWord w) 0 0 0 0 0 0) n ⌝ }
 {
     match n {
-        numeral::Numeral::Word(w) => Kept::Tag(record(22, float::round_byte(float::f32_of_word(w)) as u32, 0, 0, 0, 0, 0, 0)),
+        numeral::Numeral::Word(w) => {
+            let n = float::round_byte(float::f32_of_word(w)) as u32;
+            Kept::Tag(record(22, n, 0, 0, 0, 0, 0, 0))
+        }
         numeral::Numeral::TooLong(p) => Kept::Long(p),
         numeral::Numeral::No => Kept::No,
     }
@@ -270,7 +280,11 @@ fn byte_of(w: u32) -> u32
 fn is_far(w: u32) -> bool
     ensures { λ r. ⌜ r ≡ farWord w ⌝ }
 {
-    if w <= 1000000000 { false } else { w < 3294967296 }
+    if w <= 1000000000 {
+        false
+    } else {
+        w < 3294967296
+    }
 }
 
 fn fad_of(n: lists::Numbers) -> Kept
@@ -297,8 +311,20 @@ fn fade_of(n: lists::Numbers) -> Kept
     let w = n.words;
     if n.all {
         if n.count >= 7 {
-            let x = record(2, byte_of(w[0]), byte_of(w[1]), byte_of(w[2]), w[3], w[4], w[5], w[6]);
-            if either(is_far(w[3]), either(is_far(w[4]), either(is_far(w[5]), is_far(w[6])))) {
+            let x = record(
+                2,
+                byte_of(w[0]),
+                byte_of(w[1]),
+                byte_of(w[2]),
+                w[3],
+                w[4],
+                w[5],
+                w[6],
+            );
+            if either(
+                is_far(w[3]),
+                either(is_far(w[4]), either(is_far(w[5]), is_far(w[6]))),
+            ) {
                 return Kept::Far(x);
             }
             return Kept::Tag(x);
@@ -384,7 +410,10 @@ fn part_of(p: usize, q: usize) -> Part
     ensures { λ r. ⌜ r ≡ partOf (part p q) ⌝ }
 {
     if p < q {
-        return Part { offset: p as u32, size: (q - p) as u32 };
+        return Part {
+            offset: p as u32,
+            size: (q - p) as u32,
+        };
     }
     Part { offset: 0, size: 0 }
 }
@@ -431,7 +460,13 @@ fn shaped(text: &[u8], shape: Shape, p: usize, q: usize) -> Kept
         Shape::Flag(kind) => flag_of(text, kind, p, q),
         Shape::Alpha(kind) => alpha_of(kind, colour::alpha_at(text, p, q)),
         Shape::Colour(kind) => colour_of(kind, colour::colour_at(text, p, q)),
-        Shape::Clip(kind, drawn) => clip_of(kind, drawn, lists::numbers_at(text, false, p, q), p, q),
+        Shape::Clip(kind, drawn) => clip_of(
+            kind,
+            drawn,
+            lists::numbers_at(text, false, p, q),
+            p,
+            q,
+        ),
         Shape::Beat(kind) => beat_tag(kind, numeral::f32_at(text, p, q)),
         Shape::Fad => fad_of(lists::numbers_at(text, true, p, q)),
         Shape::Fade => fade_of(lists::numbers_at(text, true, p, q)),

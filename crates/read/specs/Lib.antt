@@ -2,3 +2,4 @@ pub mod Block
 pub mod Heads
 pub mod Kept
 pub mod Reading
+pub mod Sheet

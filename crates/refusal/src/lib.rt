@@ -1,5 +1,6 @@
 // 01, Grounds for turning a call down.
 ghost use mathlib.Core.Path.{_≡_};
+ghost use Prim.Native.Nat.{_≤_};
 ghost use Rattle.refusal.specs.Refusal.{numberOf, placeOf};
 
 // The nine grounds in checking order, each with its place or count where it has one.
@@ -17,7 +18,7 @@ pub enum Refusal {
 
 // The ground's number.
 pub fn number_of(r: Refusal) -> u32
-    ensures { λ n. ⌜ n ≡ numberOf r ⌝ }
+    ensures { λ n. ⌜ (n ≡ numberOf r) × (n ≤ 9) ⌝ }
 {
     match r {
         Refusal::TextTooLong => 1,

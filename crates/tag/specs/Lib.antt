@@ -1,2 +1,3 @@
 pub mod Tag
 pub mod Table
+pub mod Range

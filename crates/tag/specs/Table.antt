@@ -15,10 +15,6 @@ use Rattle.tag.specs.Tag.{Part, Times, absent, times, Rgb, KaraokeKind, 
 abbrev pub width : ℕ
 width = 8
 
--- the places of a table that are counted, 01, ground 9
-abbrev pub mostPlaces : ℕ
-mostPlaces = 1024
-
 -- a record: its kind and seven words
 abbrev pub rec : ℕ → ℕ → ℕ → ℕ → ℕ → ℕ → ℕ → ℕ → Record
 rec k a b c d e f g = record { kind = k; w1 = a; w2 = b; w3 = c; w4 = d; w5 = e; w6 = f; w7 = g }

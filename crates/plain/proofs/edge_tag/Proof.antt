@@ -11,8 +11,8 @@ f32-of-word-requires c κs = search needs
 round-byte-requires : tie.Need-round-byte-requires
 round-byte-requires c κs = search needs
 
-cast-record : tie.Need-cast-record
-cast-record c = search needs
+cast-n : tie.Need-cast-n
+cast-n c = search needs
 
 record-requires : tie.Need-record-requires
 record-requires c κs = search needs
@@ -41,7 +41,7 @@ edge-tag-spec =
     enum-known-n
     f32-of-word-requires
     round-byte-requires
-    cast-record
+    cast-n
     record-requires
     enum-known-n-2
     enum-told

@@ -1,5 +1,4 @@
 use mathlib.Core.Path.{sym, _∙_}
-use native.Mathlib.Omega.{arith}
 use Rattle.tag.specs.Table.{records}
 use Rattle.plain.specs.Coded.{fnTag}
 use Rattle.plain.proofs.Keys.{fn-goes-on}

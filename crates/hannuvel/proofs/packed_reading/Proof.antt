@@ -1,0 +1,25 @@
+use borrow.Author.Needs.{needs}
+use Rattle.hannuvel.proofs.packed_reading.Statement.{statement}
+use Rattle.hannuvel.proofs.packed_reading.Tie as tie
+use Rattle.hannuvel.proofs.packed_reading.Reads as reads
+use Rattle.hannuvel.proofs.packed_reading.Lts as lts
+use Rattle.hannuvel.proofs.packed_refusal.Reads as packed-refusal-reads
+
+enum-known-r : tie.Need-enum-known-r
+enum-known-r c = search needs
+
+enum-known-r-2 : tie.Need-enum-known-r-2
+enum-known-r-2 c = search needs
+
+packed-refusal-requires : tie.Need-packed-refusal-requires
+packed-refusal-requires c κs = search needs
+
+returns : tie.Need-returns
+returns c = rw (c .before .r .given .1)
+
+returns-2 : tie.Need-returns-2
+returns-2 c = rw (c .before .before .r2 .given .1) (c .packed-refusal .ensures)
+
+pub packed-reading-spec : {M : Type 1} → statement M
+packed-reading-spec =
+    tie.close (tie.spec enum-known-r enum-known-r-2 packed-refusal-requires returns returns-2)

@@ -1,0 +1,23 @@
+-- Answers as one number. Bits 48 to 63: 01's number of the ground, 0 for an answer; bits 0 to 31: the value, or the ground's place or count.
+-- Places and counts lie below 2 ^ 32: Rattle.read.proofs.Places.
+use mathlib.Core.Path.{_≡_}
+use mathlib.Core.List.{List}
+use Prim.Native.Nat.{ℕ, _+_, _*_, _%_, _^_}
+use Rattle.refusal.specs.Refusal.{numberOf, placeOf}
+use Rattle.refusal.specs.declared.Refusal.{Refusal}
+use Rattle.read.specs.Reading.{answer, after, placesOf}
+use Rattle.read.specs.declared.Reading.{Reading}
+use Rattle.read.specs.declared.Reading.the-variants.{Read, Refused}
+use Rattle.read.specs.declared.Span.{Span}
+
+abbrev pub refusalWord : Refusal → ℕ
+refusalWord r = numberOf r * 2 ^ 48 + placeOf r % 2 ^ 32
+
+abbrev pub readingWord : Reading → ℕ
+readingWord (Read n) = n % 2 ^ 32
+readingWord (Refused r) = refusalWord r
+
+-- what a reading call says: the number r, and the table t before and u after
+pub record ReadingCall (s : List ℕ) (x : Span) (t : List ℕ) (r : ℕ) (u : List ℕ) : Type 0 where
+  pub answered : r ≡ readingWord (answer s x (placesOf t))
+  pub table : u ≡ after s x t

@@ -1,0 +1,37 @@
+// The C interface, declared in include/hannuvel.h. A call answers one number: bits 48 to 63 the refusal's ground, 0 for none; bits 32 to 47 an extra; bits 0 to 31 the value, or the refusal's place or count.
+ghost use mathlib.Core.Path.{_≡_};
+ghost use Rattle.read.specs.Reading.{wholeText, lessBraces};
+ghost use Rattle.hannuvel.specs.Packed.{refusalWord, readingWord, ReadingCall};
+
+fn packed_refusal(r: refusal::Refusal) -> u64
+    ensures { λ w. ⌜ w ≡ refusalWord r ⌝ }
+{
+    let ground = refusal::number_of(r) as u64;
+    let place = (refusal::place_of(r) % 4294967296) as u64;
+    ground * 281474976710656 + place
+}
+
+fn packed_reading(r: read::Reading) -> u64
+    ensures { λ w. ⌜ w ≡ readingWord r ⌝ }
+{
+    match r {
+        read::Reading::Read(n) => (n % 4294967296) as u64,
+        read::Reading::Refused(g) => packed_refusal(g),
+    }
+}
+
+// Reads a block into a table; braces are ordinary bytes. The value is the number of records written.
+#[no_mangle]
+pub extern "C" fn hannuvel_parse_overrides(text: &[u8], table: &mut [u32]) -> u64
+    ensures { λ r. ⌜ ReadingCall (now (text .entry)) (wholeText (now (text .entry))) (now (table .entry)) r (now (table .exit)) ⌝ }
+{
+    packed_reading(read::parse_overrides(text, table))
+}
+
+// The same for the text trimmed, less one { and one }; offsets count from the text given.
+#[no_mangle]
+pub extern "C" fn hannuvel_parse_raw_block(text: &[u8], table: &mut [u32]) -> u64
+    ensures { λ r. ⌜ ReadingCall (now (text .entry)) (lessBraces (now (text .entry))) (now (table .entry)) r (now (table .exit)) ⌝ }
+{
+    packed_reading(read::parse_raw_block(text, table))
+}

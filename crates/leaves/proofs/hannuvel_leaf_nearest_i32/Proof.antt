@@ -1,0 +1,26 @@
+use mathlib.Core.Path.{ap, _∙_}
+use lib.IntN.{ℤ}
+use lib.Ieee.{binary32, ofInt}
+use mir.Facts.{toZ-ofZ}
+use Rattle.leaves.specs.Leaves.{to}
+use borrow.Author.Needs.{needs}
+use Rattle.leaves.proofs.hannuvel_leaf_nearest_i32.Statement.{statement}
+use Rattle.leaves.proofs.hannuvel_leaf_nearest_i32.Tie as tie
+
+of-word-requires : tie.Need-of-word-requires
+of-word-requires c κs = search needs
+
+nearest-i32-requires : tie.Need-nearest-i32-requires
+nearest-i32-requires c κs = search needs
+
+word-of-f32-requires : tie.Need-word-of-f32-requires
+word-of-f32-requires c κs = search needs
+
+returns : tie.Need-returns
+returns c =
+    let o = c .before .before .of-word in
+    rw (c .word-of-f32 .ensures, c .before .nearest-i32 .ensures) (ap (λ (z : ℤ). to (ofInt binary32 z)) (toZ-ofZ (record { sfits = o .ok }) ∙ o .ensures))
+
+pub hannuvel-leaf-nearest-i32-spec : {M : Type 1} → statement M
+hannuvel-leaf-nearest-i32-spec =
+    tie.close (tie.spec of-word-requires nearest-i32-requires word-of-f32-requires returns)

@@ -1,0 +1,76 @@
+#!/usr/bin/env bash
+# The tests: rt ci over every crate of crates.txt, then the comparison with the Rust.
+# Any failure ends it with a status other than 0. Its last line is rt ci's own, 'N passed, 0 failed',
+# held back until everything else has passed.
+set -euo pipefail
+cd "$(dirname "${BASH_SOURCE[0]}")"
+
+say() { printf 'test.sh: %s\n' "$*"; }
+fail() {
+    printf 'test.sh: FAILED: %s\n' "$*" >&2
+    exit 1
+}
+
+# rustup installs here, and a bare environment may not have it on PATH
+PATH=$PATH:${HOME:-/root}/.cargo/bin
+export CARGO_TARGET_DIR=$PWD/oracle/target
+unset HANNUVEL_ARCHIVES
+
+# Without its tools a part would go untested, so this is a failure and not a reason to pass over it.
+for tool in rt cargo rustc python3 nm; do
+    command -v "$tool" >/dev/null || fail "$tool is not on PATH"
+done
+
+listed() { grep -Eq "^[[:space:]]*$1[[:space:]]*:" crates.txt; }
+exported() { grep -Eqs "fn[[:space:]]+$1\(" crates/hannuvel/src/*.rt; }
+
+# ---- rt ci. It removes target/, so its output is kept elsewhere until it has ended.
+kept=$(mktemp)
+trap 'rm -f "$kept"' EXIT
+began=$SECONDS
+set +e
+rt ci 2>&1 | tee "$kept" | sed -u '$d'
+ended=("${PIPESTATUS[@]}")
+set -e
+mkdir -p target
+cp "$kept" target/ci.log
+verdict=$(tail -n 1 "$kept")
+proving=$((SECONDS - began))
+[ "${ended[0]}" -eq 0 ] || fail "rt ci ended with status ${ended[0]}, its last line being: $verdict"
+[ "${ended[1]}${ended[2]}" = 00 ] || fail "rt ci's output could not be kept or shown"
+[[ $verdict =~ ^[1-9][0-9]*\ passed,\ 0\ failed$ ]] || fail "rt ci's last line is: $verdict"
+
+# ---- the Rust side, over what rt ci has proved
+began=$SECONDS
+rt staticlib leaves || fail "rt staticlib leaves ended with status $?"
+if listed hannuvel; then
+    rt staticlib hannuvel || fail "rt staticlib hannuvel ended with status $?"
+else
+    say "NOT RUN: crates.txt has no hannuvel, so there is no C interface to compare"
+fi
+(cd oracle && cargo test --release --offline) || fail "cargo test ended with status $?"
+(cd oracle && cargo build --release --offline) || fail "cargo build ended with status $?"
+
+compare() { # SUITE OPTIONS..
+    say "compare $*"
+    "$CARGO_TARGET_DIR/release/compare" "$@" || fail "compare $* ended with status $?"
+}
+compare_call() { # FUNCTION SUITE OPTIONS..
+    local function=$1
+    shift
+    if exported "$function"; then compare "$@"; else say "NOT RUN: compare $1, as hannuvel has no $function"; fi
+}
+compare leaves --count 20000 --random-only
+if listed hannuvel; then
+    compare_call hannuvel_parse_overrides blocks --count 20000
+    compare_call hannuvel_parse_drawing drawings --count 20000
+    compare_call hannuvel_split_clip_arg clips --count 20000
+    compare_call hannuvel_evaluate_at evaluate --count 20000 --random-only
+    compare_call hannuvel_next_mark marks --count 20000 --random-only
+    compare_call hannuvel_karaoke_spans karaoke --count 20000 --random-only
+    compare_call hannuvel_progress progress --count 20000 --random-only
+    compare_call hannuvel_style_in_force styles --count 20000 --random-only
+fi
+
+say "rt ci took $proving s, the Rust side $((SECONDS - began)) s; rt ci's output is in target/ci.log"
+printf '%s\n' "$verdict"
