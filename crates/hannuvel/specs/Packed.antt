@@ -5,17 +5,16 @@ use mathlib.Core.List.{List}
 use Prim.Native.Nat.{ℕ, _+_, _*_, _%_, _^_}
 use Rattle.refusal.specs.Refusal.{numberOf, placeOf}
 use Rattle.refusal.specs.declared.Refusal.{Refusal}
-use Rattle.read.specs.Reading.{answer, after, placesOf}
+use Rattle.read.specs.Reading.{answer, after, placesOf, groundNumber, groundPlace, recordsRead}
 use Rattle.read.specs.declared.Reading.{Reading}
-use Rattle.read.specs.declared.Reading.the-variants.{Read, Refused}
 use Rattle.read.specs.declared.Span.{Span}
 
 abbrev pub refusalWord : Refusal → ℕ
 refusalWord r = numberOf r * 2 ^ 48 + placeOf r % 2 ^ 32
 
+-- an answer by its ground, its place or count, and the records written
 abbrev pub readingWord : Reading → ℕ
-readingWord (Read n) = n % 2 ^ 32
-readingWord (Refused r) = refusalWord r
+readingWord r = groundNumber r * 2 ^ 48 + (groundPlace r + recordsRead r) % 2 ^ 32
 
 -- what a reading call says: the number r, and the table t before and u after
 pub record ReadingCall (s : List ℕ) (x : Span) (t : List ℕ) (r : ℕ) (u : List ℕ) : Type 0 where

@@ -2,3 +2,4 @@ pub mod Peeling
 pub mod Walk
 pub mod Turn
 pub mod Answer
+pub mod Agree

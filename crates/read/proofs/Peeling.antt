@@ -74,9 +74,9 @@ module _ (s : List ℕ) (q i k : ℕ) (e : k ≡ headEnd s i q) where
       let j : k + 1 ≤ trimStart s (k + 1) q = skip-low _ blank-at-fits s q (q - (k + 1)) (k + 1) in
       rw (← e)
       (⊎-elim
-        (λ (h : q ≤ k). head-last (f32At s i k) i q k (getD s k 0) (peel s q (q - i) (trimStart s (k + 1) q)) (from s q (trimStart s (k + 1) q)) h)
-        (λ (h : k < q). ap (λ (u : Peel). peelHead (f32At s i k) i q k (getD s k 0) u) (peel-fuel s q (q - i) (suc (q - trimStart s (k + 1) q)) (trimStart s (k + 1) q) (omega arith) (omega arith)))
-        (le-or-lt q k))
+      (λ (h : q ≤ k). head-last (f32At s i k) i q k (getD s k 0) (peel s q (q - i) (trimStart s (k + 1) q)) (from s q (trimStart s (k + 1) q)) h)
+      (λ (h : k < q). ap (λ (u : Peel). peelHead (f32At s i k) i q k (getD s k 0) u) (peel-fuel s q (q - i) (suc (q - trimStart s (k + 1) q)) (trimStart s (k + 1) q) (omega arith) (omega arith)))
+      (le-or-lt q k))
 
 module _ (all more : Peel) (h : Heads) (i q k b : ℕ) where
   no : (x : F32) → wordOfF32 x ≡ No → Peeling all (peelHead x i q k b more) h → Peeling all (peeled i) h

@@ -48,7 +48,7 @@ told-one i (kept x) t most h s = record { out = rw s; table = rw s; few = h }
 told-one i (far x) t most h s = record { out = rw s; table = rw s; few = h }
 
 pub plain-told : (s : List ℕ) (i a b p q : ℕ) (t : List ℕ) (most : ℕ) (k : Kept) (r : Out) (u : List ℕ) → 1 ≤ most → k ≡ keptOf (plainAt s a b p q) → r ≡ keptGot i k → u ≡ laid t (keptRecords k)
-  → Told t (oneGot i (plainAt s a b p q)) most r u
+    → Told t (oneGot i (plainAt s a b p q)) most r u
 plain-told s i a b p q t most k r u h e f g = rw (f, g, e) (told-one i (plainAt s a b p q) t most h (plain-single s a b p q))
 
 -- ---- a \t
@@ -105,8 +105,8 @@ length-part t rs k h = simp (length-append, length-laid) (omega (arith, length-t
 -- what `parse_t` says, from what its calls say
 module _ (d : ℕ) (s : List ℕ) (p q : ℕ) (t : List ℕ) (l : Peeled) (o r : Out) (k : ℕ) (x : Record) (u v : List ℕ) where
   pub t-told : ¬ (d ≡ 0) → Peels p q (peelTo s p q) l → Told (take (length t - k) (drop k t)) (parse (d - 1) s (l .rest) q) (q - l .rest) o u → k ≡ min 8 (length t)
-    → x ≡ tWords (l .heads) (o .n) → v ≡ laid (take k t ++ (u ++ drop (length t - k) (drop k t))) (x ∷ []) → r ≡ aroundOut (l .long) o
-    → Told t (tAt d s p q) (q - p + 1) r v
+      → x ≡ tWords (l .heads) (o .n) → v ≡ laid (take k t ++ (u ++ drop (length t - k) (drop k t))) (x ∷ []) → r ≡ aroundOut (l .long) o
+      → Told t (tAt d s p q) (q - p + 1) r v
   unfolding encode
   t-told h g a e b c f =
       let w = peelTo s p q in
@@ -121,7 +121,7 @@ module _ (d : ℕ) (s : List ℕ) (p q : ℕ) (t : List ℕ) (l : Peeled) (o r :
       record {
         out = rw (f, t-more d s p q h, append-nil (encode (i .tags)), n, m, j, g .long, add-one);
         table = rw (t-more d s p q h, append-nil (encode (i .tags)), ← y) z;
-        few = rw f (omega (arith, a .few, g .low))
+        few = rw f (omega (arith, a .few, g .low));
       }
 
 -- ---- a block
@@ -146,7 +146,7 @@ pub turning-start : (t : List ℕ) (g : Got) → Turning t g g t (record { n = 0
 turning-start t g = record { len = refl; table = simp zero-min; count = omega arith; long = refl; far = refl }
 
 pub turning-turn : {t₀ t u : List ℕ} {all rest g : Got} {o o′ r : Out} {k most : ℕ} → Turning t₀ all (join g rest) t o → k ≡ min (8 * o .n) (length t)
-  → Told (take (length t - k) (drop k t)) g most o′ u → r ≡ joinedOut o o′ → Turning t₀ all rest (take k t ++ (u ++ drop (length t - k) (drop k t))) r
+    → Told (take (length t - k) (drop k t)) g most o′ u → r ≡ joinedOut o o′ → Turning t₀ all rest (take k t ++ (u ++ drop (length t - k) (drop k t))) r
 turning-turn {t₀} {t} {u} {all} {rest} {g} {o} {o′} {r} {k} {most} l e a f =
     let x = encode (g .tags) in
     let w = part-table t u x k (omega arith) (a .table) in
@@ -161,7 +161,7 @@ turning-turn {t₀} {t} {u} {all} {rest} {g} {o} {o′} {r} {k} {most} l e a f =
       table = rw (w, n, f, m) (l .table ∙ rw (ea, ← e) s);
       count = rw f (omega (arith, l .count, ap length ea, length-append x (encode (rest .tags))));
       long = rw (f, b) (l .long ∙ first-assoc (o .long) (g .long) (rest .long));
-      far = rw (f, d) (l .far ∙ first-assoc (o .far) (g .far) (rest .far))
+      far = rw (f, d) (l .far ∙ first-assoc (o .far) (g .far) (rest .far));
     }
 
 pub turning-end : {t₀ t : List ℕ} {all : Got} {o : Out} {most : ℕ} → Turning t₀ all nothing t o → o .n ≤ most → Told t₀ all most o t

@@ -83,8 +83,16 @@ module _ (d : ℕ) (s : List ℕ) (i e : ℕ) where
       let z : e - i ≡ suc (e - (i + 1)) = omega arith in
       let w : ¬ (headAt s i e .end ≡ i + 1) = λ k. n (ap (λ (x : Head). x .end) q ∙ k) in
       let v = head-low s i e in
-      rw (q, parse-walk d s i e, parse-walk d s (headAt s i e .next) e, z, lt-ltb i e l, eq-eqb (getD s i 0) 92 b, ne-eqb (headAt s i e .end) (i + 1) w,
-        fuel (tAt d s) s e (e - (i + 1)) (e - headAt s i e .next) (headAt s i e .next) (omega arith) (omega arith))
+      rw (
+        q,
+        parse-walk d s i e,
+        parse-walk d s (headAt s i e .next) e,
+        z,
+        lt-ltb i e l,
+        eq-eqb (getD s i 0) 92 b,
+        ne-eqb (headAt s i e .end) (i + 1) w,
+        fuel (tAt d s) s e (e - (i + 1)) (e - headAt s i e .next) (headAt s i e .next) (omega arith) (omega arith),
+      )
 
 -- a tag is a \t or not, by its name
 module _ (inner : ℕ → ℕ → Got) (s : List ℕ) (i : ℕ) (h : Head) where

@@ -73,13 +73,31 @@ fn param_at(text: &[u8], name: usize, i: usize, e: usize) -> Head
         if text[i] == 40 {
             let c = scan::closing(text, i + 1, e);
             if c < e {
-                return Head { name, end: i, p: i + 1, q: c, next: c + 1 };
+                return Head {
+                    name,
+                    end: i,
+                    p: i + 1,
+                    q: c,
+                    next: c + 1,
+                };
             }
-            return Head { name, end: i, p: i + 1, q: c, next: c };
+            return Head {
+                name,
+                end: i,
+                p: i + 1,
+                q: c,
+                next: c,
+            };
         }
     }
     let d = scan::span(text, scan::Class::Not(92), i, e);
-    Head { name, end: i, p: i, q: d, next: d }
+    Head {
+        name,
+        end: i,
+        p: i,
+        q: d,
+        next: d,
+    }
 }
 
 // The tag whose backslash is at i.
@@ -98,15 +116,35 @@ fn with_head(h: Heads, w: u32) -> Heads
     ensures { λ r. ⌜ r ≡ headed h w ⌝ }
 {
     if h.count == 0 {
-        return Heads { count: 1, w0: w, w1: 0, w2: 0 };
+        return Heads {
+            count: 1,
+            w0: w,
+            w1: 0,
+            w2: 0,
+        };
     }
     if h.count == 1 {
-        return Heads { count: 2, w0: h.w0, w1: w, w2: 0 };
+        return Heads {
+            count: 2,
+            w0: h.w0,
+            w1: w,
+            w2: 0,
+        };
     }
     if h.count == 2 {
-        return Heads { count: 3, w0: h.w0, w1: h.w1, w2: w };
+        return Heads {
+            count: 3,
+            w0: h.w0,
+            w1: h.w1,
+            w2: w,
+        };
     }
-    Heads { count: h.count + 1, w0: h.w0, w1: h.w1, w2: h.w2 }
+    Heads {
+        count: h.count + 1,
+        w0: h.w0,
+        w1: h.w1,
+        w2: h.w2,
+    }
 }
 
 // The numbers in front of a \t's tags, as `peel_leading_numbers` has them.
@@ -114,17 +152,30 @@ fn peel(text: &[u8], p: usize, q: usize) -> Peeled
     requires { ⌜ (p ≤ q) × (q ≤ length (now text)) × (q < 65536) ⌝ }
     ensures { λ r. ⌜ Peels p q (peelTo (now (text .entry)) p q) r ⌝ }
 {
-    let mut heads = Heads { count: 0, w0: 0, w1: 0, w2: 0 };
+    let mut heads = Heads {
+        count: 0,
+        w0: 0,
+        w1: 0,
+        w2: 0,
+    };
     let mut i = scan::trim_start(text, p, q);
     loop {
         let k = scan::span(text, scan::Class::Neither(44, 92), i, q);
         let n = numeral::f32_at(text, i, k);
         match n {
             numeral::Numeral::No => {
-                return Peeled { heads, rest: i, long: lists::Found::Nowhere };
+                return Peeled {
+                    heads,
+                    rest: i,
+                    long: lists::Found::Nowhere,
+                };
             }
             numeral::Numeral::TooLong(at) => {
-                return Peeled { heads, rest: i, long: lists::Found::At(at) };
+                return Peeled {
+                    heads,
+                    rest: i,
+                    long: lists::Found::At(at),
+                };
             }
             numeral::Numeral::Word(w) => {
                 let more = with_head(heads, w);
@@ -132,10 +183,18 @@ fn peel(text: &[u8], p: usize, q: usize) -> Peeled
             }
         }
         if k >= q {
-            return Peeled { heads, rest: q, long: lists::Found::Nowhere };
+            return Peeled {
+                heads,
+                rest: q,
+                long: lists::Found::Nowhere,
+            };
         }
         if text[k] == 92 {
-            return Peeled { heads, rest: k, long: lists::Found::Nowhere };
+            return Peeled {
+                heads,
+                rest: k,
+                long: lists::Found::Nowhere,
+            };
         }
         i = scan::trim_start(text, k + 1, q);
     }
@@ -146,17 +205,53 @@ fn t_record(h: Heads, n: u32) -> tag::Record
     ensures { λ r. ⌜ r ≡ tWords h n ⌝ }
 {
     if h.count == 0 {
-        return tag::Record { kind: 49, w1: 0, w2: 0, w3: 0, w4: 0x3F800000, w5: n, w6: 0, w7: 0 };
+        return tag::Record {
+            kind: 49,
+            w1: 0,
+            w2: 0,
+            w3: 0,
+            w4: 0x3F800000,
+            w5: n,
+            w6: 0,
+            w7: 0,
+        };
     }
     if h.count == 1 {
-        return tag::Record { kind: 49, w1: 0, w2: 0, w3: 0, w4: h.w0, w5: n, w6: 0, w7: 0 };
+        return tag::Record {
+            kind: 49,
+            w1: 0,
+            w2: 0,
+            w3: 0,
+            w4: h.w0,
+            w5: n,
+            w6: 0,
+            w7: 0,
+        };
     }
     let a = plain::time_of(h.w0);
     let b = plain::time_of(h.w1);
     if h.count == 2 {
-        return tag::Record { kind: 49, w1: 1, w2: a, w3: b, w4: 0x3F800000, w5: n, w6: 0, w7: 0 };
+        return tag::Record {
+            kind: 49,
+            w1: 1,
+            w2: a,
+            w3: b,
+            w4: 0x3F800000,
+            w5: n,
+            w6: 0,
+            w7: 0,
+        };
     }
-    tag::Record { kind: 49, w1: 1, w2: a, w3: b, w4: h.w2, w5: n, w6: 0, w7: 0 }
+    tag::Record {
+        kind: 49,
+        w1: 1,
+        w2: a,
+        w3: b,
+        w4: h.w2,
+        w5: n,
+        w6: 0,
+        w7: 0,
+    }
 }
 
 // What a plain tag gives, its record into the front of the table.
@@ -164,15 +259,31 @@ fn keep(i: usize, k: plain::Kept, table: &mut [u32]) -> Out
     ensures { λ r. ⌜ (r ≡ keptGot i k) × (now (table .exit) ≡ laid (now (table .entry)) (Rattle.read.specs.Kept.keptRecords k)) × (r .n ≤ 1) ⌝ }
 {
     match k {
-        plain::Kept::No => Out { n: 0, long: lists::Found::Nowhere, far: lists::Found::Nowhere },
-        plain::Kept::Long(p) => Out { n: 0, long: lists::Found::At(p), far: lists::Found::Nowhere },
+        plain::Kept::No => Out {
+            n: 0,
+            long: lists::Found::Nowhere,
+            far: lists::Found::Nowhere,
+        },
+        plain::Kept::Long(p) => Out {
+            n: 0,
+            long: lists::Found::At(p),
+            far: lists::Found::Nowhere,
+        },
         plain::Kept::Tag(r) => {
             tag::put(table, r);
-            Out { n: 1, long: lists::Found::Nowhere, far: lists::Found::Nowhere }
+            Out {
+                n: 1,
+                long: lists::Found::Nowhere,
+                far: lists::Found::Nowhere,
+            }
         }
         plain::Kept::Far(r) => {
             tag::put(table, r);
-            Out { n: 1, long: lists::Found::Nowhere, far: lists::Found::At(i) }
+            Out {
+                n: 1,
+                long: lists::Found::Nowhere,
+                far: lists::Found::At(i),
+            }
         }
     }
 }
@@ -188,7 +299,11 @@ fn joined(a: Out, b: Out) -> Out
     let af = a.far;
     let bf = b.far;
     let far = lists::first(af, bf);
-    Out { n: a.n + b.n, long, far }
+    Out {
+        n: a.n + b.n,
+        long,
+        far,
+    }
 }
 
 // What a \t gives: its own record, and what is inside.
@@ -199,7 +314,11 @@ fn around(l: lists::Found, o: Out) -> Out
     let inner = o.long;
     let long = lists::first(l, inner);
     let far = o.far;
-    Out { n: o.n + 1, long, far }
+    Out {
+        n: o.n + 1,
+        long,
+        far,
+    }
 }
 
 // One tag, its backslash at i, into the front of the table.
@@ -219,7 +338,11 @@ fn parse_t(text: &[u8], p: usize, q: usize, depth: usize, table: &mut [u32]) -> 
     ensures { λ r. ⌜ Told (now (table .entry)) (tAt depth (now (text .entry)) p q) (q - p + 1) r (now (table .exit)) ⌝ }
 {
     if depth == 0 {
-        return Out { n: 0, long: lists::Found::Nowhere, far: lists::Found::Nowhere };
+        return Out {
+            n: 0,
+            long: lists::Found::Nowhere,
+            far: lists::Found::Nowhere,
+        };
     }
     let l = peel(text, p, q);
     let start = least(8, table.len());
@@ -231,12 +354,22 @@ fn parse_t(text: &[u8], p: usize, q: usize, depth: usize, table: &mut [u32]) -> 
 }
 
 // The tags of a block, into the front of the table.
-fn parse_overrides_depth(text: &[u8], from: usize, to: usize, depth: usize, table: &mut [u32]) -> Out
+fn parse_overrides_depth(
+    text: &[u8],
+    from: usize,
+    to: usize,
+    depth: usize,
+    table: &mut [u32],
+) -> Out
     requires { ⌜ (from ≤ to) × (to ≤ length (now text)) × (length (now text) < 65536) ⌝ }
     ensures { λ r. ⌜ Told (now (table .entry)) (parse depth (now (text .entry)) from to) (to - from) r (now (table .exit)) ⌝ }
 {
     let mut i = from;
-    let mut out = Out { n: 0, long: lists::Found::Nowhere, far: lists::Found::Nowhere };
+    let mut out = Out {
+        n: 0,
+        long: lists::Found::Nowhere,
+        far: lists::Found::Nowhere,
+    };
     while i < to {
         if text[i] == 92 {
             let h = head_at(text, i, to);

@@ -70,55 +70,55 @@ rectRow = row float float float float unused unused unused
 -- the kinds from 1 on
 unfoldable pub rows : List Row
 rows =
-    twoWords (range 0 2147483647) (range 0 2147483647) ∷ -- Fad
-    row byte byte byte time time time time ∷ -- Fade
-    twoWords float float ∷ -- Pos
-    row float float float float flag time time ∷ -- Move
-    oneWord float ∷ -- Frz
-    oneWord float ∷ -- Blur
-    oneWord float ∷ -- Fscx
-    oneWord float ∷ -- Fscy
-    colourRow ∷ -- Color1
-    oneWord float ∷ -- Fs
-    rectRow ∷ -- ClipRect
-    twoWords free free ∷ -- ClipDrawing
-    oneWord float ∷ -- Frx
-    oneWord float ∷ -- Fry
-    twoWords float float ∷ -- Org
-    oneWord float ∷ -- Bord
-    oneWord float ∷ -- Xbord
-    oneWord float ∷ -- Ybord
-    oneWord float ∷ -- Shad
-    oneWord float ∷ -- Xshad
-    oneWord float ∷ -- Yshad
-    oneWord byte ∷ -- Be
-    oneWord float ∷ -- Fax
-    oneWord float ∷ -- Fay
-    rectRow ∷ -- IClipRect
-    twoWords free free ∷ -- IClipDrawing
-    colourRow ∷ -- Color2
-    colourRow ∷ -- Color3
-    colourRow ∷ -- Color4
-    oneWord byte ∷ -- Alpha
-    oneWord byte ∷ -- Alpha1
-    oneWord byte ∷ -- Alpha2
-    oneWord byte ∷ -- Alpha3
-    oneWord byte ∷ -- Alpha4
-    oneWord float ∷ -- Fsp
-    oneWord (range 0 3) ∷ -- Q
-    oneWord (range 1 9) ∷ -- An
-    oneWord byte ∷ -- A
-    row free free free free unused unused unused ∷ -- Fn
-    oneWord byte ∷ -- Fe
-    row flag free free unused unused unused unused ∷ -- R
-    oneWord weight ∷ -- B
-    oneWord flag ∷ -- I
-    oneWord flag ∷ -- U
-    oneWord flag ∷ -- S
-    twoWords (range 0 2) (range 0 1000000000) ∷ -- Karaoke
-    oneWord time ∷ -- Pbo
-    oneWord byte ∷ -- P
-    row flag time time float free unused unused ∷ -- T
+    twoWords (range 0 2147483647) (range 0 2147483647) ∷  -- Fad
+    row byte byte byte time time time time ∷  -- Fade
+    twoWords float float ∷  -- Pos
+    row float float float float flag time time ∷  -- Move
+    oneWord float ∷  -- Frz
+    oneWord float ∷  -- Blur
+    oneWord float ∷  -- Fscx
+    oneWord float ∷  -- Fscy
+    colourRow ∷  -- Color1
+    oneWord float ∷  -- Fs
+    rectRow ∷  -- ClipRect
+    twoWords free free ∷  -- ClipDrawing
+    oneWord float ∷  -- Frx
+    oneWord float ∷  -- Fry
+    twoWords float float ∷  -- Org
+    oneWord float ∷  -- Bord
+    oneWord float ∷  -- Xbord
+    oneWord float ∷  -- Ybord
+    oneWord float ∷  -- Shad
+    oneWord float ∷  -- Xshad
+    oneWord float ∷  -- Yshad
+    oneWord byte ∷  -- Be
+    oneWord float ∷  -- Fax
+    oneWord float ∷  -- Fay
+    rectRow ∷  -- IClipRect
+    twoWords free free ∷  -- IClipDrawing
+    colourRow ∷  -- Color2
+    colourRow ∷  -- Color3
+    colourRow ∷  -- Color4
+    oneWord byte ∷  -- Alpha
+    oneWord byte ∷  -- Alpha1
+    oneWord byte ∷  -- Alpha2
+    oneWord byte ∷  -- Alpha3
+    oneWord byte ∷  -- Alpha4
+    oneWord float ∷  -- Fsp
+    oneWord (range 0 3) ∷  -- Q
+    oneWord (range 1 9) ∷  -- An
+    oneWord byte ∷  -- A
+    row free free free free unused unused unused ∷  -- Fn
+    oneWord byte ∷  -- Fe
+    row flag free free unused unused unused unused ∷  -- R
+    oneWord weight ∷  -- B
+    oneWord flag ∷  -- I
+    oneWord flag ∷  -- U
+    oneWord flag ∷  -- S
+    twoWords (range 0 2) (range 0 1000000000) ∷  -- Karaoke
+    oneWord time ∷  -- Pbo
+    oneWord byte ∷  -- P
+    row flag time time float free unused unused ∷  -- T
     []
 
 -- absent times are 0

@@ -136,3 +136,8 @@ unfoldable mutual
 unfoldable pub laid : List ℕ → List Record → List ℕ
 laid t [] = t
 laid t (r ∷ rs) = let u = words r ++ laid (drop width t) rs in pick (leb width (length t)) u t
+
+-- the words of records, one behind the other
+unfoldable pub tableWords : List Record → List ℕ
+tableWords [] = []
+tableWords (r ∷ rs) = words r ++ tableWords rs

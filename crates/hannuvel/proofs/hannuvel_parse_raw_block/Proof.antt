@@ -16,7 +16,7 @@ same-length : tie.Need-same-length
 same-length c = search needs
 
 returns : tie.Need-returns
-returns c = 
+returns c =
     let a = c .before .before .before .parse-raw-block .ensures in
     record { answered = rw (← a .reading) (c .packed-reading .ensures); table = a .table }
 

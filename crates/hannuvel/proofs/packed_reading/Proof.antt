@@ -1,3 +1,4 @@
+use native.Mathlib.Omega.{arith}
 use borrow.Author.Needs.{needs}
 use Rattle.hannuvel.proofs.packed_reading.Statement.{statement}
 use Rattle.hannuvel.proofs.packed_reading.Tie as tie
@@ -15,10 +16,10 @@ packed-refusal-requires : tie.Need-packed-refusal-requires
 packed-refusal-requires c κs = search needs
 
 returns : tie.Need-returns
-returns c = rw (c .before .r .given .1)
+returns c = rw (c .before .r .given .1) (omega arith)
 
 returns-2 : tie.Need-returns-2
-returns-2 c = rw (c .before .before .r2 .given .1) (c .packed-refusal .ensures)
+returns-2 c = rw (c .before .before .r2 .given .1) (omega (arith, c .packed-refusal .ensures))
 
 pub packed-reading-spec : {M : Type 1} → statement M
 packed-reading-spec =

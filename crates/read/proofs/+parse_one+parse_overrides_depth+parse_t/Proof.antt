@@ -89,7 +89,7 @@ parse-one-same-length : (t : ℕ) → parse-one-lts.Need-same-length (calls-one 
 parse-one-same-length t c = search needs
 
 parse-one-returns : (t : ℕ) → parse-one-lts.Need-returns (calls-one t) (parse-one-at t) parse-one.Post
-parse-one-returns t c = 
+parse-one-returns t c =
     let e : keyAt _ _ _ ≡ tKey = sym (c .before .before .before .before .before .key-at .ensures) ∙ c .before .before .before .before .if1 .taken in
     rw (tag-t _ _ _ (c .before .before .before .before .before .before .before .before .args .h) e) (c .before .before .parse-t .ensures)
 
@@ -103,7 +103,7 @@ parse-one-same-length-2 : (t : ℕ) → parse-one-lts.Need-same-length-2 (calls-
 parse-one-same-length-2 t c = search needs
 
 parse-one-returns-2 : (t : ℕ) → parse-one-lts.Need-returns-2 (calls-one t) (parse-one-at t) parse-one.Post
-parse-one-returns-2 t c = 
+parse-one-returns-2 t c =
     let k = c .before .before .keep .ensures in
     rw (tag-plain _ _ _ (c .before .before .before .before .before .before .before .before .before .args .h) (λ z. c .before .before .before .before .before .if1 .left (c .before .before .before .before .before .before .key-at .ensures ∙ z)))
     (plain-told _ _ _ _ _ _ _ _ _ _ _ (search needs) (c .before .before .before .before .plain-at .ensures) (k .0) (k .1))
@@ -172,7 +172,7 @@ parse-overrides-depth-loop-again : (t : ℕ) → parse-overrides-depth-lts.Need-
     parse-overrides-depth.Post
     parse-overrides-depth-Inv-loop
     parse-overrides-depth-μ-loop
-parse-overrides-depth-loop-again t c = 
+parse-overrides-depth-loop-again t c =
     let l = c .before .before .before .before .before .before .loop in
     let a = c .before .before .before .before .before .before .before .before .before .args in
     let h = c .before .before .head-at in
@@ -279,7 +279,7 @@ parse-overrides-depth-loop-again-2 : (t : ℕ) → parse-overrides-depth-lts.Nee
     parse-overrides-depth.Post
     parse-overrides-depth-Inv-loop
     parse-overrides-depth-μ-loop
-parse-overrides-depth-loop-again-2 t c = 
+parse-overrides-depth-loop-again-2 t c =
     let l = c .before .before .before .before .before .before .before .before .before .before .before .before .before .loop in
     let a = c .before .before .before .before .before .before .before .before .before .before .before .before .before .before .before .before .args in
     let h = c .before .before .before .before .before .before .before .before .before .head-at in
@@ -306,7 +306,7 @@ parse-overrides-depth-loop-again-3 : (t : ℕ) → parse-overrides-depth-lts.Nee
     parse-overrides-depth.Post
     parse-overrides-depth-Inv-loop
     parse-overrides-depth-μ-loop
-parse-overrides-depth-loop-again-3 t c = 
+parse-overrides-depth-loop-again-3 t c =
     let l = c .before .before .before .loop in
     let a = c .before .before .before .before .before .before .args in
     let k = parse-skip (a .depth) (a .text .now) (l .i) (a .to) (c .before .before .loop-test .taken) (c .if1 .left) in
@@ -324,7 +324,7 @@ parse-overrides-depth-returns : (t : ℕ) → parse-overrides-depth-lts.Need-ret
     parse-overrides-depth.Post
     parse-overrides-depth-Inv-loop
     parse-overrides-depth-μ-loop
-parse-overrides-depth-returns t c = 
+parse-overrides-depth-returns t c =
     let l = c .before .loop in
     let a = c .before .before .before .before .args in
     let k = parse-end (a .depth) (a .text .now) (l .i) (a .to) (c .loop-test .left) in
@@ -388,7 +388,7 @@ parse-t-same-length : (t : ℕ) → parse-t-lts.Need-same-length (calls-t t) (pa
 parse-t-same-length t c = c .before .before .before .put .kept .0 ∙ c .before .before .before .before .before .before .before .before .before .table .given .1
 
 parse-t-returns-2 : (t : ℕ) → parse-t-lts.Need-returns-2 (calls-t t) (parse-t-at t) parse-t.Post
-parse-t-returns-2 t c = 
+parse-t-returns-2 t c =
     let r = c .before .before .before .before .before .before .before .before .before .before in
     t-told _ _ _ _ _ _ _ _ _ _ _ _ (r .before .before .before .before .if1 .left) (r .before .before .before .peel .ensures) (r .parse-overrides-depth .ensures) (r .before .before .least .ensures) (c .before .before .before .before .t-record .ensures) (c .before .before .before .put .ensures) (c .around .ensures)
 

@@ -26,7 +26,7 @@ param-at-requires : tie.Need-param-at-requires
 param-at-requires c κs = search needs
 
 returns : tie.Need-returns
-returns c = 
+returns c =
     let p = c .before .before .past in
     let s = c .before .span in
     let h = c .param-at .ensures in

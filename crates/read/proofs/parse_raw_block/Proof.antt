@@ -30,7 +30,7 @@ same-length c = search needs
 
 returns : tie.Need-returns
 unfolding lessBraces
-returns c = 
+returns c =
     let a = c .before .before .before .before .before .before .before .trim-start .ensures .is in
     let b = c .before .before .before .before .before .before .trim-end .ensures .is in
     let p = c .before .before .before .before .before .past .ensures .is in

@@ -38,7 +38,7 @@ enum-told : tie.Need-enum-told Inv-loop μ-loop
 enum-told c = search needs
 
 returns : tie.Need-returns Inv-loop μ-loop
-returns c = 
+returns c =
     let l = c .before .before .before .before .loop in
     peeling-end (peeling-no (c .before .before .before .before .before .before .before .args .text .now) (c .before .before .before .before .before .before .before .args .q) (l .i) (c .before .before .before .span .result) (c .before .before .before .span .ensures .is) (l .inv .3) (sym (c .before .before .f32-at .ensures) ∙ c .enum-told .given .1)) (search needs) (search needs)
 
@@ -46,7 +46,7 @@ enum-known-n : tie.Need-enum-known-n Inv-loop μ-loop
 enum-known-n c = search needs
 
 returns-2 : tie.Need-returns-2 Inv-loop μ-loop
-returns-2 c = 
+returns-2 c =
     let l = c .before .before .before .before .before .loop in
     peeling-end (peeling-long (c .before .before .before .before .before .before .before .before .args .text .now) (c .before .before .before .before .before .before .before .before .args .q) (l .i) (c .before .before .before .before .span .result) (c .before .before .before .before .span .ensures .is) (l .inv .3) _ (sym (c .before .before .before .f32-at .ensures) ∙ c .before .n .given .1)) (search needs) (search needs)
 
@@ -57,7 +57,7 @@ with-head-requires : tie.Need-with-head-requires Inv-loop μ-loop
 with-head-requires c κs = search needs
 
 returns-3 : tie.Need-returns-3 Inv-loop μ-loop
-returns-3 c = 
+returns-3 c =
     let l = c .before .before .before .before .before .before .before .loop in
     let w = peeling-word (c .before .before .before .before .before .before .before .before .before .before .args .text .now) (c .before .before .before .before .before .before .before .before .before .before .args .q) (l .i) (c .before .before .before .before .before .before .span .result) (c .before .before .before .before .before .before .span .ensures .is) (l .inv .3) _ (sym (c .before .before .before .before .before .f32-at .ensures) ∙ c .before .before .before .n2 .given .1) in
     peeling-end (rw (← c .before .with-head .ensures, le-ltb _ _ (c .if1 .taken)) at w) (search needs) (search needs)
@@ -66,7 +66,7 @@ shared-slice-read-if2 : tie.Need-shared-slice-read-if2 Inv-loop μ-loop
 shared-slice-read-if2 c = search needs
 
 returns-4 : tie.Need-returns-4 Inv-loop μ-loop
-returns-4 c = 
+returns-4 c =
     let l = c .before .before .before .before .before .before .before .before .before .loop in
     let w = peeling-word (c .before .before .before .before .before .before .before .before .before .before .before .before .args .text .now) (c .before .before .before .before .before .before .before .before .before .before .before .before .args .q) (l .i) (c .before .before .before .before .before .before .before .before .span .result) (c .before .before .before .before .before .before .before .before .span .ensures .is) (l .inv .3) _ (sym (c .before .before .before .before .before .before .before .f32-at .ensures) ∙ c .before .before .before .before .before .n2 .given .1) in
     peeling-end (rw (← c .before .before .before .with-head .ensures, lt-ltb _ _ (c .before .before .if1 .left), eq-eqb _ _ (c .if2 .taken)) at w) (search needs) (search needs)
@@ -81,7 +81,7 @@ loop-less : tie.Need-loop-less Inv-loop μ-loop
 loop-less c = search needs
 
 loop-again : tie.Need-loop-again Inv-loop μ-loop
-loop-again c = 
+loop-again c =
     let l = c .before .before .before .before .before .before .before .before .before .before .loop in
     let w = peeling-word (c .before .before .before .before .before .before .before .before .before .before .before .before .before .args .text .now) (c .before .before .before .before .before .before .before .before .before .before .before .before .before .args .q) (l .i) (c .before .before .before .before .before .before .before .before .before .span .result) (c .before .before .before .before .before .before .before .before .before .span .ensures .is) (l .inv .3) _ (sym (c .before .before .before .before .before .before .before .before .f32-at .ensures) ∙ c .before .before .before .before .before .before .n2 .given .1) in
     (search needs, search needs, omega (arith, ap (λ (h : Heads). h .count) (c .before .before .before .before .with-head .ensures), headed-count (l .heads) (c .before .before .before .before .before .before .n2 .given .0 .0), c .trim-start2 .ensures .low, c .before .before .before .before .before .before .before .before .before .span .ensures .low), rw (← c .before .before .before .before .with-head .ensures, lt-ltb _ _ (c .before .before .before .if1 .left), ne-eqb _ _ (c .before .if2 .left), ← c .trim-start2 .ensures .is) at w)

@@ -26,7 +26,7 @@ slice-aggregate-parse-overrides-depth : tie.Need-slice-aggregate-parse-overrides
 slice-aggregate-parse-overrides-depth c = search needs
 
 parse-overrides-depth-requires : tie.Need-parse-overrides-depth-requires
-parse-overrides-depth-requires c κs = 
+parse-overrides-depth-requires c κs =
     let g = good-short _ (sym (c .before .before .before .check-text .ensures) ∙ c .before .enum-told .given .1) in
     (search needs, search needs, omega (arith, g))
 
@@ -40,7 +40,7 @@ enum-known-answer-2 : tie.Need-enum-known-answer-2
 enum-known-answer-2 c = search needs
 
 parse-overrides-depth-requires-2 : tie.Need-parse-overrides-depth-requires-2
-parse-overrides-depth-requires-2 c κs = 
+parse-overrides-depth-requires-2 c κs =
     let g = good-short _ (sym (c .before .before .before .before .before .before .before .before .before .before .before .check-text .ensures) ∙ c .before .before .before .before .before .before .before .before .before .enum-told .given .1) in
     (search needs, search needs, omega (arith, g))
 
@@ -51,14 +51,14 @@ same-length : tie.Need-same-length
 same-length c = search needs
 
 returns-2 : tie.Need-returns-2
-returns-2 c = 
+returns-2 c =
     refused _ _ _ _ _ _ (sym (c .before .before .before .before .before .before .before .before .before .before .check-text .ensures) ∙ c .before .before .before .before .before .before .before .before .enum-told .given .1) (c .before .before .before .before .before .before .parse-overrides-depth .ensures) _ (sym (c .before .before .before .check-read .ensures) ∙ c .before .answer .given .1)
 
 same-length-2 : tie.Need-same-length-2
 same-length-2 c = search needs
 
 returns-3 : tie.Need-returns-3
-returns-3 c = 
+returns-3 c =
     done _ _ _ _ _ _ (sym (c .before .before .before .before .before .before .before .before .before .before .before .before .before .before .check-text .ensures) ∙ c .before .before .before .before .before .before .before .before .before .before .before .before .enum-told .given .1) (c .before .before .before .before .before .before .before .before .before .before .parse-overrides-depth .ensures) _ _ _ _ (sym (c .before .before .before .before .before .before .before .check-read .ensures) ∙ c .before .before .before .before .before .answer2 .given .1) (c .before .before .parse-overrides-depth2 .ensures)
 
 pub read-span-spec : {M : Type 1} → statement M

@@ -1,0 +1,141 @@
+-- Two tables agree on a block: every pair of tables, every text, both reading calls.
+use mathlib.Core.Path.{_≡_, refl, sym, ap, _∙_}
+use mathlib.Core.List.{List, [], _∷_, _++_}
+use mathlib.Core.Bool.{Bool, true, false}
+use Prim.Native.Nat.{ℕ, zero, suc, _+_, _*_, _/_, _≤_, _<_, min}
+use native.Mathlib.Omega.{arith}
+use lib.Dec.{ltb, leb}
+use lib.ListN.{length, take, drop}
+use lib.Seq.{take-at}
+use borrow.Author.Tests.{le-leb, lt-leb, leb-true, leb-false}
+use Rattle.scan.specs.Scan.{pick, inClass, spanTo}
+use Rattle.scan.specs.declared.Class.the-variants.{Below}
+use Rattle.lists.specs.declared.Found.{Found}
+use Rattle.lists.specs.declared.Found.the-variants.{Nowhere, At}
+use Rattle.refusal.specs.Refusal.{numberOf, mostBytes, mostPlaces}
+use Rattle.refusal.specs.declared.Refusal.{Refusal}
+use Rattle.refusal.specs.declared.Refusal.the-variants.{TextTooLong, NotAscii, NoRoom}
+use Rattle.tag.specs.Table.{width, encode, tableWords}
+use Rattle.tag.proofs.Table.{laid-full, length-words}
+use Rattle.read.specs.declared.Reading.{Reading}
+use Rattle.read.specs.declared.Reading.the-variants.{Read, Refused}
+use Rattle.read.specs.declared.Checked.{Checked}
+use Rattle.read.specs.declared.Checked.the-variants.{Good, Bad}
+use Rattle.read.specs.declared.Span.{Span}
+use Rattle.read.specs.Reading.{textGround, readGround, unlessBad, blockOf, keptTags, placesOf, answer, after}
+use Rattle.read.specs.Agreement.{Readable, Agreement}
+
+-- a reading is no refusal
+read-not-refused : (n : ℕ) (r : Refusal) → Read n ≡ Refused r → ⊥
+read-not-refused n r e = let z : _≡_ {A = ℕ} 0 1 = cc in omega arith
+
+refused-not-read : (n : ℕ) (r : Refusal) → Refused r ≡ Read n → ⊥
+refused-not-read n r e = let z : _≡_ {A = ℕ} 0 1 = cc in omega arith
+
+-- the answer, from the grounds and the count
+abbrev out : Checked → Found → Found → ℕ → ℕ → Reading
+out c l f n p = unlessBad c (readGround l f n p)
+
+alike-out : (c : Checked) (l f : Found) (n p q : ℕ) (r : Refusal) → ¬ (numberOf r ≡ 9) → out c l f n p ≡ Refused r → out c l f n q ≡ Refused r
+unfolding readGround
+alike-out (Bad b) l f n p q r h e = e
+alike-out Good (At a) f n p q r h e = e
+alike-out Good Nowhere (At a) n p q r h e = e
+alike-out Good Nowhere Nowhere n p q r h e = go (leb n (min p mostPlaces)) refl e
+  where
+    go : (b : Bool) → leb n (min p mostPlaces) ≡ b → pick b (Read n) (Refused (NoRoom n)) ≡ Refused r → out Good Nowhere Nowhere n q ≡ Refused r
+    go true z e = absurd (read-not-refused n r e)
+    go false z e =
+        let y : NoRoom n ≡ r = cc in
+        absurd (h (ap numberOf (sym y)))
+
+-- what stands behind a refusal for space
+record Lacking (c : Checked) (l f : Found) (n m p : ℕ) : Type 0 where
+  text : c ≡ Good
+  numerals : l ≡ Nowhere
+  fades : f ≡ Nowhere
+  count : m ≡ n
+  more : min p mostPlaces < n
+
+lacking-out : (c : Checked) (l f : Found) (n m p : ℕ) → ((b : Refusal) → c ≡ Bad b → ¬ (numberOf b ≡ 9)) → out c l f n p ≡ Refused (NoRoom m) → Lacking c l f n m p
+unfolding readGround
+lacking-out (Bad b) l f n m p h e =
+    let y : b ≡ NoRoom m = cc in
+    absurd (h b refl (ap numberOf y))
+lacking-out Good (At a) f n m p h e = absurd (let z : _≡_ {A = ℕ} 0 1 = cc in omega arith)
+lacking-out Good Nowhere (At a) n m p h e = absurd (let z : _≡_ {A = ℕ} 0 1 = cc in omega arith)
+lacking-out Good Nowhere Nowhere n m p h e = go (leb n (min p mostPlaces)) refl e
+  where
+    go : (b : Bool) → leb n (min p mostPlaces) ≡ b → pick b (Read n) (Refused (NoRoom n)) ≡ Refused (NoRoom m) → Lacking Good Nowhere Nowhere n m p
+    go true z e = absurd (read-not-refused n (NoRoom m) e)
+    go false z e = record { text = refl; numerals = refl; fades = refl; count = cc; more = leb-false n (min p mostPlaces) z }
+
+-- and behind a reading
+read-out : (c : Checked) (l f : Found) (n m p : ℕ) → out c l f n p ≡ Read m → (m ≡ n) × (n ≤ min p mostPlaces)
+unfolding readGround
+read-out (Bad b) l f n m p e = absurd (refused-not-read m b e)
+read-out Good (At a) f n m p e = absurd (let z : _≡_ {A = ℕ} 0 1 = cc in omega arith)
+read-out Good Nowhere (At a) n m p e = absurd (let z : _≡_ {A = ℕ} 0 1 = cc in omega arith)
+read-out Good Nowhere Nowhere n m p e = go (leb n (min p mostPlaces)) refl e
+  where
+    go : (b : Bool) → leb n (min p mostPlaces) ≡ b → pick b (Read n) (Refused (NoRoom n)) ≡ Read m → (m ≡ n) × (n ≤ min p mostPlaces)
+    go true z e = (cc, leb-true n (min p mostPlaces) z)
+    go false z e = absurd (refused-not-read m (NoRoom n) e)
+
+-- the grounds on the text are 1 and 2
+text-ground : (s : List ℕ) (b : Refusal) → textGround s ≡ Bad b → ¬ (numberOf b ≡ 9)
+unfolding textGround
+text-ground s b e = go (ltb mostBytes (length s)) (ltb (spanTo (inClass (Below 128)) s 0 (length s)) (length s)) e
+  where
+    go : (u v : Bool) → pick u (Bad TextTooLong) (pick v (Bad (NotAscii (spanTo (inClass (Below 128)) s 0 (length s)))) Good) ≡ Bad b → ¬ (numberOf b ≡ 9)
+    go true v e h =
+        let z : b ≡ TextTooLong = cc in
+        let w : _≡_ {A = ℕ} 1 9 = sym (ap numberOf z) ∙ h in
+        omega arith
+    go false true e h =
+        let z : b ≡ NotAscii (spanTo (inClass (Below 128)) s 0 (length s)) = cc in
+        let w : _≡_ {A = ℕ} 2 9 = sym (ap numberOf z) ∙ h in
+        omega arith
+    go false false e h = absurd (let z : _≡_ {A = ℕ} 0 1 = cc in omega arith)
+
+module _ (s : List ℕ) (x : Span) where
+  abbrev kept : ℕ
+  kept = keptTags (blockOf s x)
+
+  is-out : (p : ℕ) → answer s x p ≡ out (textGround s) (blockOf s x .long) (blockOf s x .far) kept p
+  unfolding answer
+  is-out p = refl
+
+  lacking : (p n : ℕ) → answer s x p ≡ Refused (NoRoom n) → Lacking (textGround s) (blockOf s x .long) (blockOf s x .far) kept n p
+  lacking p n e = lacking-out (textGround s) (blockOf s x .long) (blockOf s x .far) kept n p (text-ground s) (sym (is-out p) ∙ e)
+
+  -- a readable block is read or lacks space
+  readable : (p : ℕ) → Readable s x → answer s x p ≡ pick (leb kept (min p mostPlaces)) (Read kept) (Refused (NoRoom kept))
+  unfolding readGround
+  readable p h = is-out p ∙ rw (h .text, h .numerals, h .fades)
+
+  -- the records that a table holds after a reading
+  holds : (t : List ℕ) (n : ℕ) → answer s x (placesOf t) ≡ Read n → (n ≡ kept) × (take (width * n) (after s x t) ≡ tableWords (encode (blockOf s x .tags)))
+  unfolding after
+  holds t n e =
+      let rs = encode (blockOf s x .tags) in
+      let h = read-out (textGround s) (blockOf s x .long) (blockOf s x .far) kept n (placesOf t) (sym (is-out (placesOf t)) ∙ e) in
+      let room : 8 * length (encode (blockOf s x .tags)) ≤ length t = omega (arith, h .1) in
+      let m : 8 * n ≡ length (tableWords rs) = ap (λ (k : ℕ). 8 * k) (h .0) ∙ sym (length-words rs) in
+      (h .0, rw (e, laid-full rs t room, m) (take-at (tableWords rs) (drop (8 * length rs) t) (length (tableWords rs)) refl))
+
+pub agreement : (s : List ℕ) (x : Span) (t u : List ℕ) → Agreement s x t u
+agreement s x t u =
+    record {
+      alike = λ r h e. is-out s x (placesOf u) ∙ alike-out (textGround s) (blockOf s x .long) (blockOf s x .far) (kept s x) (placesOf t) (placesOf u) r h (sym (is-out s x (placesOf t)) ∙ e);
+      lacking = λ n e.
+          let l = lacking s x (placesOf t) n e in
+          (record { text = l .text; numerals = l .numerals; fades = l .fades }, l .count, l .more);
+      lacks = λ h k. readable s x (placesOf t) h ∙ rw (lt-leb (kept s x) (min (placesOf t) mostPlaces) k);
+      fits = λ h k. readable s x (placesOf t) h ∙ rw (le-leb (kept s x) (min (placesOf t) mostPlaces) k);
+      same = λ n m e f.
+          let a = holds s x t n e in
+          let b = holds s x u m f in
+          let z : n ≡ m = a .0 ∙ sym (b .0) in
+          (z, a .1 ∙ sym (rw z (b .1)));
+    }

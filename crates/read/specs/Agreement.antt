@@ -1,0 +1,33 @@
+-- 01, What demand 3 speaks of, as far as reading goes: two tables of any sizes and any old contents.
+use mathlib.Core.Path.{_≡_}
+use mathlib.Core.List.{List}
+use Prim.Native.Nat.{ℕ, _*_, _≤_, _<_, min}
+use lib.ListN.{take}
+use Rattle.lists.specs.declared.Found.the-variants.{Nowhere}
+use Rattle.refusal.specs.Refusal.{numberOf, mostPlaces}
+use Rattle.refusal.specs.declared.Refusal.{Refusal}
+use Rattle.refusal.specs.declared.Refusal.the-variants.{NoRoom}
+use Rattle.tag.specs.Table.{width}
+use Rattle.read.specs.declared.Reading.the-variants.{Read, Refused}
+use Rattle.read.specs.declared.Checked.the-variants.{Good}
+use Rattle.read.specs.declared.Span.{Span}
+use Rattle.read.specs.Reading.{textGround, blockOf, keptTags, placesOf, answer, after}
+
+-- that none of the grounds on the text alone stands against a block: 1, 2, 3, 4
+pub record Readable (s : List ℕ) (x : Span) : Type 0 where
+  pub text : textGround s ≡ Good
+  pub numerals : blockOf s x .long ≡ Nowhere
+  pub fades : blockOf s x .far ≡ Nowhere
+
+-- what holds of the readings of one block into the tables t and u
+pub record Agreement (s : List ℕ) (x : Span) (t u : List ℕ) : Type 0 where
+  -- grounds other than space do not depend on the table: same number, same place
+  pub alike : (r : Refusal) → ¬ (numberOf r ≡ 9) → answer s x (placesOf t) ≡ Refused r → answer s x (placesOf u) ≡ Refused r
+  -- where space is refused, the count is that of all kept tags, and they exceed the places, of which 1,024 count
+  pub lacking : (n : ℕ) → answer s x (placesOf t) ≡ Refused (NoRoom n) → Readable s x × (n ≡ keptTags (blockOf s x)) × (min (placesOf t) mostPlaces < keptTags (blockOf s x))
+  -- and where they exceed it, space is refused
+  pub lacks : Readable s x → min (placesOf t) mostPlaces < keptTags (blockOf s x) → answer s x (placesOf t) ≡ Refused (NoRoom (keptTags (blockOf s x)))
+  -- otherwise all kept tags are read
+  pub fits : Readable s x → keptTags (blockOf s x) ≤ min (placesOf t) mostPlaces → answer s x (placesOf t) ≡ Read (keptTags (blockOf s x))
+  -- where both tables hold the block, they hold as many records and the same words
+  pub same : (n m : ℕ) → answer s x (placesOf t) ≡ Read n → answer s x (placesOf u) ≡ Read m → (n ≡ m) × (take (width * n) (after s x t) ≡ take (width * n) (after s x u))
