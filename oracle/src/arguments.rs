@@ -5,6 +5,7 @@ use crate::suite::Settings;
 pub const USAGE: &str = "\
 usage: compare SUITE [--seed S] [--count N] [--random-only] [--self]
        compare sample SUITE [--seed S] [--count N] --inputs FILE --answers FILE
+       compare cost KIND BYTES SIDE TIMES
 SUITE: leaves, blocks, drawings, clips, evaluate, marks, karaoke, progress, styles";
 
 const SUITES: &[&str] = &[

@@ -2,6 +2,7 @@
 
 mod answer;
 mod arguments;
+mod cost;
 mod generate;
 mod hex;
 mod leaves;
@@ -34,6 +35,12 @@ const UNUSABLE: u8 = 2;
 
 fn main() -> ExitCode {
     let words: Vec<String> = std::env::args().skip(1).collect();
+    if words.first().is_some_and(|word| word == "cost") {
+        return match cost::run(&words[1..]) {
+            Some(()) => ExitCode::SUCCESS,
+            None => ExitCode::from(UNUSABLE),
+        };
+    }
     match parse(&words) {
         Some(command) => dispatch(&command),
         None => {

@@ -3,3 +3,7 @@ pub mod Walk
 pub mod Turn
 pub mod Answer
 pub mod Agree
+pub mod MovedScan
+pub mod MovedNumbers
+pub mod MovedPlain
+pub mod Moved

@@ -4,3 +4,4 @@ pub mod Kept
 pub mod Reading
 pub mod Agreement
 pub mod Sheet
+pub mod Moved
