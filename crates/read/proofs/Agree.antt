@@ -19,10 +19,11 @@ use Rattle.tag.specs.Table.{width, encode, tableWords}
 use Rattle.tag.proofs.Table.{laid-full, length-words}
 use Rattle.read.specs.declared.Reading.{Reading}
 use Rattle.read.specs.declared.Reading.the-variants.{Read, Refused}
-use Rattle.read.specs.declared.Checked.{Checked}
-use Rattle.read.specs.declared.Checked.the-variants.{Good, Bad}
+use Rattle.refusal.specs.declared.Checked.{Checked}
+use Rattle.refusal.specs.declared.Checked.the-variants.{Good, Bad}
 use Rattle.read.specs.declared.Span.{Span}
-use Rattle.read.specs.Reading.{textGround, readGround, unlessBad, blockOf, keptTags, placesOf, answer, after}
+use Rattle.read.specs.Reading.{readGround, unlessBad, blockOf, keptTags, placesOf, answer, after}
+use Rattle.refusal.specs.Refusal.{textGround}
 use Rattle.read.specs.Agreement.{Readable, Agreement}
 
 -- a reading is no refusal

@@ -17,10 +17,11 @@ use Rattle.tag.proofs.Table.{laid-none}
 use Rattle.read.specs.declared.Out.{Out}
 use Rattle.read.specs.declared.Reading.{Reading}
 use Rattle.read.specs.declared.Reading.the-variants.{Read, Refused}
-use Rattle.read.specs.declared.Checked.{Checked}
-use Rattle.read.specs.declared.Checked.the-variants.{Good, Bad}
+use Rattle.refusal.specs.declared.Checked.{Checked}
+use Rattle.refusal.specs.declared.Checked.the-variants.{Good, Bad}
 use Rattle.read.specs.declared.Span.{Span}
-use Rattle.read.specs.Reading.{Told, textGround, readGround, blockOf, answer, after, Answered}
+use Rattle.read.specs.Reading.{Told, readGround, blockOf, answer, after, Answered}
+use Rattle.refusal.specs.Refusal.{textGround}
 
 -- a text with no ground 1 is short
 pub good-short : (s : List ℕ) → textGround s ≡ Good → length s ≤ mostBytes

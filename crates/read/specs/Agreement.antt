@@ -9,9 +9,10 @@ use Rattle.refusal.specs.declared.Refusal.{Refusal}
 use Rattle.refusal.specs.declared.Refusal.the-variants.{NoRoom}
 use Rattle.tag.specs.Table.{width}
 use Rattle.read.specs.declared.Reading.the-variants.{Read, Refused}
-use Rattle.read.specs.declared.Checked.the-variants.{Good}
+use Rattle.refusal.specs.declared.Checked.the-variants.{Good}
 use Rattle.read.specs.declared.Span.{Span}
-use Rattle.read.specs.Reading.{textGround, blockOf, keptTags, placesOf, answer, after}
+use Rattle.read.specs.Reading.{blockOf, keptTags, placesOf, answer, after}
+use Rattle.refusal.specs.Refusal.{textGround}
 
 -- that none of the grounds on the text alone stands against a block: 1, 2, 3, 4
 pub record Readable (s : List ℕ) (x : Span) : Type 0 where

@@ -5,20 +5,20 @@ use mathlib.Core.Bool.{Bool, true, false}
 use Prim.Native.Nat.{ℕ, zero, suc, _+_, _-_, _*_, _/_, _≤_, min}
 use lib.Dec.{ltb, leb, eqb}
 use lib.ListN.{length, getD}
-use Rattle.scan.specs.Scan.{pick, inClass, spanTo, past, trimStart, trimEnd}
-use Rattle.scan.specs.declared.Class.the-variants.{Is, Below}
+use Rattle.scan.specs.Scan.{pick, inClass, past, trimStart, trimEnd}
+use Rattle.scan.specs.declared.Class.the-variants.{Is}
 use Rattle.lists.specs.declared.Found.{Found}
 use Rattle.lists.specs.declared.Found.the-variants.{Nowhere, At}
-use Rattle.refusal.specs.Refusal.{numberOf, placeOf, mostBytes, mostPlaces}
+use Rattle.refusal.specs.Refusal.{numberOf, placeOf, mostPlaces, textGround}
 use Rattle.refusal.specs.declared.Refusal.{Refusal}
-use Rattle.refusal.specs.declared.Refusal.the-variants.{TextTooLong, NotAscii, NumeralTooLong, FadeTooFar, NoRoom}
+use Rattle.refusal.specs.declared.Refusal.the-variants.{NumeralTooLong, FadeTooFar, NoRoom}
 use Rattle.tag.specs.Table.{encode, laid, width}
 use Rattle.read.specs.declared.Out.{Out}
 use Rattle.read.specs.declared.Reading.{Reading}
 use Rattle.read.specs.declared.Reading.the-variants.{Read, Refused}
 use Rattle.read.specs.declared.Span.{Span}
-use Rattle.read.specs.declared.Checked.{Checked}
-use Rattle.read.specs.declared.Checked.the-variants.{Good, Bad}
+use Rattle.refusal.specs.declared.Checked.{Checked}
+use Rattle.refusal.specs.declared.Checked.the-variants.{Good, Bad}
 use Rattle.read.specs.Block.{Got, parse, mostDepth}
 
 -- 01, What demand 3 speaks of: each tag counts as one, a \t and each tag inside it
@@ -33,12 +33,6 @@ pub record Told (t : List ℕ) (g : Got) (most : ℕ) (r : Out) (u : List ℕ) :
   pub out : r ≡ outOf g
   pub table : u ≡ laid t (encode (g .tags))
   pub few : r .n ≤ most
-
--- grounds 1 and 2, on the text given
-unfoldable pub textGround : List ℕ → Checked
-textGround s =
-    let a = spanTo (inClass (Below 128)) s 0 (length s) in
-    pick (ltb mostBytes (length s)) (Bad TextTooLong) (pick (ltb a (length s)) (Bad (NotAscii a)) Good)
 
 -- grounds 3, 4 and 9, on what the text gives and the number of places in the table
 unfoldable pub readGround : Found → Found → ℕ → ℕ → Reading

@@ -20,7 +20,8 @@ use Rattle.plain.specs.Plain.{part, f32s, i32s, allFloats, floatsIn, allInts, i
 use Rattle.read.specs.declared.Reading.{Reading}
 use Rattle.read.specs.declared.Reading.the-variants.{Read, Refused}
 use Rattle.read.specs.Block.{paramAt, peel, tagAt, walk, parse}
-use Rattle.read.specs.Reading.{textGround, readGround, wholeText, lessBraces, blockOf, answer}
+use Rattle.read.specs.Reading.{readGround, wholeText, lessBraces, blockOf, answer}
+use Rattle.refusal.specs.Refusal.{textGround}
 
 -- the records of a text, for the call that drops no brace and for the one that does
 abbrev recordsOf : String → List Record

@@ -6,7 +6,7 @@ ghost use lib.ListN.{length};
 ghost use Rattle.tag.specs.Table.{encode, laid};
 ghost use Rattle.read.specs.Block.{paramAt, nameEnd, headAt, HeadIn, peel as peelFrom, peelTo, tagAt, tAt, parse, oneGot};
 ghost use Rattle.read.specs.Heads.{headed, tWords, Peels};
-ghost use Rattle.read.specs.Reading.{Told, textGround, readGround, wholeText, lessBraces, answer, after, Answered, outOf};
+ghost use Rattle.read.specs.Reading.{Told, readGround, wholeText, lessBraces, answer, after, Answered, outOf};
 ghost use Rattle.read.specs.Kept.{keptGot, joinedOut, aroundOut};
 
 // A tag: where its name begins and ends, its parameter from p to q, and the place behind both.
@@ -44,12 +44,6 @@ pub struct Out {
 pub struct Span {
     pub from: usize,
     pub to: usize,
-}
-
-// A text's grounds 1 and 2.
-pub enum Checked {
-    Good,
-    Bad(refusal::Refusal),
 }
 
 // The answer of a reading call: the number of records written, or the refusal.
@@ -389,20 +383,6 @@ fn parse_overrides_depth(
     out
 }
 
-// Grounds 1 and 2.
-fn check_text(text: &[u8]) -> Checked
-    ensures { λ r. ⌜ r ≡ textGround (now (text .entry)) ⌝ }
-{
-    if text.len() > 12288 {
-        return Checked::Bad(refusal::Refusal::TextTooLong);
-    }
-    let a = scan::span(text, scan::Class::Below(128), 0, text.len());
-    if a < text.len() {
-        return Checked::Bad(refusal::Refusal::NotAscii(a));
-    }
-    Checked::Good
-}
-
 // Grounds 3, 4 and 9 for what was seen.
 fn check_read(o: Out, places: usize) -> Reading
     ensures { λ r. ⌜ r ≡ readGround (o .long) (o .far) (o .n) places ⌝ }
@@ -429,10 +409,10 @@ fn read_span(text: &[u8], from: usize, to: usize, table: &mut [u32]) -> Reading
     requires { ⌜ (from ≤ to) × (to ≤ length (now text)) ⌝ }
     ensures { λ r. ⌜ Answered (now (text .entry)) (record { from = from; to = to }) (now (table .entry)) r (now (table .exit)) ⌝ }
 {
-    let checked = check_text(text);
+    let checked = refusal::check_text(text);
     match checked {
-        Checked::Bad(r) => Reading::Refused(r),
-        Checked::Good => {
+        refusal::Checked::Bad(r) => Reading::Refused(r),
+        refusal::Checked::Good => {
             let seen = parse_overrides_depth(text, from, to, 8, &mut table[..0]);
             let answer = check_read(seen, table.len() / 8);
             match answer {

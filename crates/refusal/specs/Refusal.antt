@@ -1,6 +1,13 @@
 -- 01, Grounds for turning a call down: the number of each, and the place or count stated beside it, else 0.
+use mathlib.Core.List.{List}
 use Prim.Native.Nat.{ℕ}
+use lib.Dec.{ltb}
+use lib.ListN.{length}
+use Rattle.scan.specs.Scan.{pick, inClass, spanTo}
+use Rattle.scan.specs.declared.Class.the-variants.{Below}
 use Rattle.refusal.specs.declared.Refusal.{Refusal}
+use Rattle.refusal.specs.declared.Checked.{Checked}
+use Rattle.refusal.specs.declared.Checked.the-variants.{Good, Bad}
 use Rattle.refusal.specs.declared.Refusal.the-variants.{TextTooLong, NotAscii, NumeralTooLong, FadeTooFar, TableMalformed, TimeOutOfRange, ScaleTooLarge, NameBeyondText, NoRoom}
 
 abbrev pub numberOf : Refusal → ℕ
@@ -31,3 +38,9 @@ mostBytes = 12288
 
 abbrev pub mostPlaces : ℕ
 mostPlaces = 1024
+
+-- grounds 1 and 2, on the text given
+unfoldable pub textGround : List ℕ → Checked
+textGround s =
+    let a = spanTo (inClass (Below 128)) s 0 (length s) in
+    pick (ltb mostBytes (length s)) (Bad TextTooLong) (pick (ltb a (length s)) (Bad (NotAscii a)) Good)

@@ -1,7 +1,7 @@
 // 01, Grounds for turning a call down.
 ghost use mathlib.Core.Path.{_≡_};
 ghost use Prim.Native.Nat.{_≤_};
-ghost use Rattle.refusal.specs.Refusal.{numberOf, placeOf};
+ghost use Rattle.refusal.specs.Refusal.{numberOf, placeOf, textGround};
 
 // The nine grounds in checking order, each with its place or count where it has one.
 pub enum Refusal {
@@ -14,6 +14,12 @@ pub enum Refusal {
     ScaleTooLarge,
     NameBeyondText,
     NoRoom(usize),
+}
+
+// What a check finds: nothing against a call, or a ground.
+pub enum Checked {
+    Good,
+    Bad(Refusal),
 }
 
 // The ground's number.
@@ -48,4 +54,18 @@ pub fn place_of(r: Refusal) -> usize
         Refusal::NameBeyondText => 0,
         Refusal::NoRoom(n) => n,
     }
+}
+
+// Grounds 1 and 2, on the text given.
+pub fn check_text(text: &[u8]) -> Checked
+    ensures { λ r. ⌜ r ≡ textGround (now (text .entry)) ⌝ }
+{
+    if text.len() > 12288 {
+        return Checked::Bad(Refusal::TextTooLong);
+    }
+    let a = scan::span(text, scan::Class::Below(128), 0, text.len());
+    if a < text.len() {
+        return Checked::Bad(Refusal::NotAscii(a));
+    }
+    Checked::Good
 }

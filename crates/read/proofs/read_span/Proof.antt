@@ -7,7 +7,7 @@ use Rattle.read.proofs.read_span.Tie as tie
 use Rattle.read.proofs.read_span.Reads as reads
 use Rattle.read.proofs.read_span.Lts as lts
 use Rattle.read.proofs.check_read.Reads as check-read-reads
-use Rattle.read.proofs.check_text.Reads as check-text-reads
+use Rattle.refusal.proofs.check_text.Reads as check-text-reads
 use Rattle.read.proofs.parse_overrides_depth.Reads as parse-overrides-depth-reads
 
 check-text-requires : tie.Need-check-text-requires
