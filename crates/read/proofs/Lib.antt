@@ -7,3 +7,10 @@ pub mod MovedScan
 pub mod MovedNumbers
 pub mod MovedPlain
 pub mod Moved
+pub mod Inside
+pub mod Every
+pub mod Words
+pub mod Fine
+pub mod Parts
+pub mod Ranges
+pub mod Places

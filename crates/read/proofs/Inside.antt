@@ -1,0 +1,156 @@
+-- What a scan of the text from i to e gives lies between i and e.
+use mathlib.Core.Path.{_≡_, refl, sym}
+use mathlib.Core.List.{List, [], _∷_, _++_}
+use mathlib.Core.Bool.{Bool, true, false}
+use mathlib.Core.Logic.{⊎-elim}
+use Prim.Native.Nat.{ℕ, zero, suc, _+_, _-_, _≤_, _<_}
+use native.Mathlib.Omega.{arith}
+use native.Mathlib.Nat.{le-refl}
+use lib.Ieee.{Float}
+use lib.ListN.{getD}
+use lib.Dec.{ltb, leb, eqb}
+use borrow.Author.Tests.{le-ltb, ltb-true, ltb-false}
+use Rattle.scan.specs.Scan.{pick, blankAt, blankBefore, spanTo, past, skip, skipBack, trimStart, trimEnd}
+use Rattle.scan.proofs.Laws.{picked, le-or-lt, span-end, span-high, skip-low, blank-at-fits, blank-before-fits}
+use Rattle.numeral.specs.Numeral.{F32, number, tooLong, f32At, f32Of, splitAt, exponentAt, isDigit}
+use Rattle.numeral.specs.declared.Decimal.{Decimal}
+use Rattle.numeral.proofs.Laws.{f32-empty}
+use Rattle.numeral.proofs.Reach.{Bounded, number-in-reach}
+use Rattle.lists.specs.Lists.{firstOf}
+use Rattle.lists.specs.declared.Found.{Found}
+use Rattle.lists.specs.declared.Found.the-variants.{Nowhere, At}
+
+-- ---- scans
+
+-- a test's two branches, each with what the test says
+pub tested : {A : Type 0} (P : A → Type 0) (i e : ℕ) {x y : A} → (i < e → P x) → (e ≤ i → P y) → P (pick (ltb i e) x y)
+tested P i e {x} {y} f g = go (ltb i e) refl
+  where
+    go : (b : Bool) → ltb i e ≡ b → P (pick b x y)
+    go true t = f (ltb-true i e t)
+    go false t = g (ltb-false i e t)
+
+pub span-to-high : (p : ℕ → Bool) (s : List ℕ) (i e : ℕ) → i ≤ e → spanTo p s i e ≤ e
+span-to-high p s i e h = omega (arith, span-high p s (e - i) i)
+
+pub past-high : (p : ℕ → Bool) (s : List ℕ) (i e : ℕ) → i ≤ e → past p s i e ≤ e
+past-high p s i e h = tested (λ (j : ℕ). j ≤ e) i e (λ (l : i < e). picked (λ (j : ℕ). j ≤ e) (p (getD s i 0)) _ _ (omega arith) h) (λ (l : e ≤ i). h)
+
+skip-high : (s : List ℕ) (e n i : ℕ) → i ≤ e → skip blankAt s e n i ≤ e
+unfolding skip
+skip-high s e zero i h = h
+skip-high s e (suc n) i h =
+    let f = blank-at-fits s i e in
+    picked (λ (j : ℕ). j ≤ e) (eqb (blankAt s i e) 0) _ _ h (skip-high s e n (i + blankAt s i e) (omega arith))
+
+pub trim-start-low : (s : List ℕ) (i e : ℕ) → i ≤ trimStart s i e
+trim-start-low s i e = skip-low _ blank-at-fits s e (e - i) i
+
+pub trim-start-high : (s : List ℕ) (i e : ℕ) → i ≤ e → trimStart s i e ≤ e
+trim-start-high s i e h = skip-high s e (e - i) i h
+
+skip-back-high : (s : List ℕ) (i n e : ℕ) → skipBack s i n e ≤ e
+unfolding skipBack
+skip-back-high s i zero e = le-refl e
+skip-back-high s i (suc n) e =
+    let h : skipBack s i n (e - blankBefore s i e) ≤ e - blankBefore s i e = skip-back-high s i n (e - blankBefore s i e) in
+    picked (λ (j : ℕ). j ≤ e) (eqb (blankBefore s i e) 0) _ _ (le-refl e) (omega arith)
+
+pub trim-end-high : (s : List ℕ) (i e : ℕ) → trimEnd s i e ≤ e
+trim-end-high s i e = skip-back-high s i (e - i) e
+
+skip-back-low : (s : List ℕ) (i n e : ℕ) → i ≤ e → i ≤ skipBack s i n e
+unfolding skipBack
+skip-back-low s i zero e h = h
+skip-back-low s i (suc n) e h =
+    let f = blank-before-fits s i e in
+    picked (λ (j : ℕ). i ≤ j) (eqb (blankBefore s i e) 0) _ _ h (skip-back-low s i n (e - blankBefore s i e) (omega arith))
+
+pub trim-end-low : (s : List ℕ) (i e : ℕ) → i ≤ e → i ≤ trimEnd s i e
+trim-end-low s i e h = skip-back-low s i (e - i) e h
+
+-- ---- numerals
+
+-- a place, if there is one, from i on and before e
+pub data Between (i e : ℕ) : Found → Type 0 where
+  nowhere : Between i e Nowhere
+  there : (p : ℕ) → i ≤ p → p < e → Between i e (At p)
+
+pub between-at : {i e : ℕ} {f : Found} → Between i e f → (p : ℕ) → f ≡ At p → (i ≤ p) × (p < e)
+between-at nowhere p q = absurd (let z : _≡_ {A = ℕ} 0 1 = cc in omega arith)
+between-at (there k l h) p q =
+    let z : k ≡ p = cc in
+    (omega arith, omega arith)
+
+pub between-wider : {i j k e : ℕ} {f : Found} → i ≤ j → k ≤ e → Between j k f → Between i e f
+between-wider a b nowhere = nowhere
+between-wider a b (there p l h) = there p (omega arith) (omega arith)
+
+pub between-first : {i e : ℕ} {f g : Found} → Between i e f → Between i e g → Between i e (firstOf f g)
+between-first nowhere b = b
+between-first (there p l h) b = there p l h
+
+-- an f32 is in reach, and a numeral that is too long stands in the text from p to q
+pub data F32In (p q : ℕ) : F32 → Type 0 where
+  no-numeral : F32In p q F32.none
+  too-long : (k : ℕ) → p ≤ k → k < q → F32In p q (tooLong k)
+  a-number : {x : Float} → Bounded x → F32In p q (number x)
+
+module _ (s : List ℕ) (a b : ℕ) where
+  abbrev d : Decimal
+  d = splitAt s a b
+
+  -- a numeral that is too long is named by its first byte
+  abbrev AtFront : F32 → Type 0
+  AtFront F32.none = Unit
+  AtFront (tooLong k) = k ≡ a
+  AtFront (number x) = Unit
+
+  at-front : AtFront (f32Of s a b)
+  unfolding f32Of
+  at-front =
+      picked AtFront (eqb (d .whole - d .from + (d .end - d .fraction)) 0) _ _ tt
+      (picked AtFront (ltb (d .end) b) _ _ (picked AtFront (exponentAt s (d .end) b) _ _ refl tt)
+      (picked AtFront (leb (d .whole - d .from) 9) _ _ (picked AtFront (leb (d .end - d .fraction) 9) _ _ tt refl) refl))
+
+  -- where there is no text there is no numeral
+  f32-nowhere : b ≤ a → f32Of s a b ≡ F32.none
+  unfolding splitAt
+  f32-nowhere h =
+      let d : splitAt s a b ≡ record { from = a; whole = a; fraction = a; end = a } = simp (le-ltb a b h, span-end isDigit s a b h) in
+      sym (f32-empty s a b (record { from = a; whole = a; fraction = a; end = a }) (sym d) (omega arith))
+
+  f32-of-in : F32In a b (f32Of s a b)
+  f32-of-in = go (f32Of s a b) refl at-front
+    where
+      go : (x : F32) → f32Of s a b ≡ x → AtFront x → F32In a b x
+      go F32.none e f = no-numeral
+      go (tooLong k) e f =
+          ⊎-elim
+          (λ (h : b ≤ a). absurd (let z : _≡_ {A = ℕ} 0 1 = cc (f32-nowhere h) in omega arith))
+          (λ (h : a < b). too-long k (omega arith) (omega arith))
+          (le-or-lt b a)
+      go (number x) e f = a-number (number-in-reach s a b x e)
+
+pub f32-wider : {p a b q : ℕ} {x : F32} → p ≤ a → b ≤ q → F32In a b x → F32In p q x
+f32-wider l h no-numeral = no-numeral
+f32-wider l h (too-long k m n) = too-long k (omega arith) (omega arith)
+f32-wider l h (a-number b) = a-number b
+
+pub f32-in : (s : List ℕ) (p q : ℕ) → F32In p q (f32At s p q)
+f32-in s p q =
+    let a = trimStart s p q in
+    f32-wider (trim-start-low s p q) (trim-end-high s a q) (f32-of-in s a (trimEnd s a q))
+
+-- all of a list
+pub data All {A : Type 0} (P : A → Type 0) : List A → Type 0 where
+  all : All P []
+  more : {x : A} {l : List A} → P x → All P l → All P (x ∷ l)
+
+pub all-map : {A : Type 0} {P Q : A → Type 0} → ((x : A) → P x → Q x) → {l : List A} → All P l → All Q l
+all-map f all = all
+all-map f (more {x = x} h l) = more (f x h) (all-map f l)
+
+pub all-append : {A : Type 0} {P : A → Type 0} {a b : List A} → All P a → All P b → All P (a ++ b)
+all-append all k = k
+all-append (more h l) k = more h (all-append l k)

@@ -1,0 +1,181 @@
+-- 01, A table record: the range of a word. Each number that a text gives fits the word that it is written to, and every tag of the table is in range when its words are.
+use mathlib.Core.Path.{_≡_, refl, sym}
+use mathlib.Core.List.{List, [], _∷_}
+use mathlib.Core.Bool.{Bool, true, false, true≢false}
+use Prim.Native.Nat.{ℕ, zero, suc, _+_, _-_, _≤_, _<_, min}
+use native.Mathlib.Omega.{arith}
+use native.Mathlib.Nat.{le-refl}
+use lib.Dec.{T, ltb, lit<}
+use lib.IntN.{ℤ, pos, negsuc, natAbs}
+use lib.Signed.{nonNeg}
+use lib.Ieee.{Float, nan, inf, fin, ofBits, toBits}
+use lib.Ieee.Bits.{is-true}
+use borrow.Author.Tests.{le-leb, lt-leb, lt-ltb, ne-eqb, leb-false, ltb-true, ltb-false}
+use Rattle.scan.specs.Scan.{pick, inClass}
+use Rattle.scan.specs.declared.Class.the-variants.{Not}
+use Rattle.scan.proofs.Laws.{picked, span-low}
+use Rattle.refusal.specs.Refusal.{mostBytes}
+use Rattle.float.specs.Float.{zero as plusZero, inReach, maxZero, roundAway, roundSize, roundByte, toWord}
+use Rattle.float.proofs.Reach.{cut-in-reach, round-in-reach, max-zero-in-reach, round-max-zero}
+use Rattle.numeral.specs.Numeral.{F32}
+use Rattle.numeral.proofs.Reach.{Bounded}
+use Rattle.lists.specs.Lists as Lists
+use Rattle.lists.specs.Lists.{commaTo, split, parts}
+use Rattle.tag.specs.Tag as Tag
+use Rattle.tag.specs.Tag.{AnimatedTag}
+use Rattle.tag.specs.Table.{records, bits, flagWord}
+use Rattle.tag.specs.Range as Range
+use Rattle.tag.specs.Range.{WordClass, range, wordFits, partFits, rows, joinFits, inRange}
+use Rattle.plain.specs.Names.{Shape, float, pair, ranged, flag, alpha, colour, clip, beat, fad, fade, move, edge, baseline, weight, reset, unknown, names}
+use Rattle.plain.specs.Plain.{part, floatOf, f32s, i32s, allFloats, floatsIn, floats, allInts, ints, nth, nthInt, timeOf, notBelowZero, isFar}
+use Rattle.plain.specs.Coded.{recordOf, kindOf}
+use Rattle.plain.proofs.Numbers.{Small, zero-small}
+use Rattle.plain.proofs.Commas.{ints-read}
+use Rattle.read.proofs.Inside.{tested, span-to-high, All, all, more, all-map, F32In, no-numeral, too-long, a-number, f32-wider, f32-in}
+use Rattle.read.proofs.Every.{Every, gather}
+
+-- ---- words
+
+abbrev pub Fits : WordClass → ℕ → Type 0
+Fits c w = wordFits c w ≡ true
+
+pub float-fits : {x : Float} → Bounded x → Fits Range.float (bits x)
+float-fits {x} b = rw (b .back) (is-true (inReach x) (b .reach))
+
+range-fits : (a b n : ℕ) → a ≤ n → n ≤ b → Fits (range a b) n
+range-fits a b n l h = rw (le-leb a n l, le-leb n b h)
+
+pub byte-fits : (n : ℕ) → n ≤ 255 → Fits (range 0 255) n
+byte-fits n h = range-fits 0 255 n (omega arith) h
+
+-- a signed number within ±1,000,000,000
+time-fits : (z : ℤ) → natAbs z ≤ 1000000000 → Fits Range.time (toWord z)
+time-fits (pos n) h = rw (le-leb n 1000000000 h)
+time-fits (negsuc n) h = rw (lt-leb (4294967296 - suc n) 1000000000 (omega arith), le-leb 3294967296 (4294967296 - suc n) (omega arith), le-leb (4294967296 - suc n) 4294967295 (omega arith))
+
+pub near-fits : (z : ℤ) → isFar z ≡ false → Fits Range.time (toWord z)
+near-fits (pos n) h = time-fits (pos n) (ltb-false 1000000000 n h)
+near-fits (negsuc n) h = time-fits (negsuc n) (leb-false 1000000000 n h)
+
+pub cut-fits : {x : Float} → Bounded x → Fits Range.time (toWord (timeOf x))
+cut-fits {x} b = time-fits (timeOf x) (cut-in-reach x (b .reach))
+
+pub round-fits : {x : Float} → Bounded x → Fits Range.time (toWord (roundAway x))
+round-fits {x} b = time-fits (roundAway x) (round-in-reach x (b .reach))
+
+pub beat-fits : {x : Float} → Bounded x → Fits (range 0 1000000000) (toWord (roundAway (maxZero x)))
+beat-fits {x} b = go (roundAway (maxZero x)) (round-in-reach (maxZero x) (max-zero-in-reach x (b .reach))) (round-max-zero x)
+  where
+    go : (z : ℤ) → natAbs z ≤ 1000000000 → T (nonNeg z) → Fits (range 0 1000000000) (toWord z)
+    go (pos n) h t = range-fits 0 1000000000 n (omega arith) h
+    go (negsuc n) h t = absurd t
+
+pub edge-fits : (x : Float) → Fits (range 0 255) (roundByte x)
+unfolding roundByte
+edge-fits nan = refl
+edge-fits (inf true) = refl
+edge-fits (inf false) = refl
+edge-fits (fin true m e) = refl
+edge-fits (fin false m e) = byte-fits (min (roundSize (fin false m e)) 255) (omega arith)
+
+pub fad-fits : (z : ℤ) → Small z → Fits (range 0 2147483647) (notBelowZero z)
+fad-fits (pos n) h = range-fits 0 2147483647 n (omega arith) (omega arith)
+fad-fits (negsuc n) h = refl
+
+-- a part that ends inside the text
+pub part-fits : (p q : ℕ) → q ≤ mostBytes → partFits (part p q .offset) (part p q .size) ≡ true
+unfolding part
+part-fits p q h =
+    tested (λ (x : Tag.Part). partFits (x .offset) (x .size) ≡ true) p q
+    (λ (l : p < q). rw (ne-eqb (q - p) 0 (λ z. omega arith), le-leb (p + (q - p)) mostBytes (omega arith)))
+    (λ (l : q ≤ p). refl)
+
+pub part-full : (p q : ℕ) → p < q → ltb 0 (part p q .size) ≡ true
+unfolding part
+part-full p q l = rw (lt-ltb p q l) (lt-ltb 0 (q - p) (omega arith))
+
+-- ---- numbers that are read
+
+zero-bounded : Bounded plusZero
+unfolding inReach toBits ofBits
+zero-bounded = record { reach = tt; word = lit< tt; back = refl }
+
+bounded-of : {p q : ℕ} {x : F32} → F32In p q x → Bounded (floatOf x)
+bounded-of no-numeral = zero-bounded
+bounded-of (too-long k a b) = zero-bounded
+bounded-of (a-number b) = b
+
+module _ (s : List ℕ) where
+  all-bounded : (l : List Lists.Part) (n : ℕ) → Bounded (nth (floatsIn (f32s s l)) n)
+  unfolding f32s floatsIn
+  all-bounded [] n = zero-bounded
+  all-bounded (x ∷ l) zero = bounded-of (f32-in s (x .from) (x .to))
+  all-bounded (x ∷ l) (suc n) = all-bounded l n
+
+  parts-in : (q n p : ℕ) → p ≤ q → All (F32In p q) (f32s s (split s q n p))
+  unfolding f32s split
+  parts-in q zero p h = more (f32-in s p q) all
+  parts-in q (suc n) p h =
+      let c = commaTo s p q in
+      let low : p ≤ commaTo s p q = span-low (inClass (Not 44)) s (q - p) p in
+      let high : commaTo s p q ≤ q = span-to-high (inClass (Not 44)) s p q h in
+      tested (λ (l : List Lists.Part). All (F32In p q) (f32s s l)) c q
+      (λ (k : c < q). more (f32-wider (le-refl p) high (f32-in s p c)) (all-map (λ (x : F32) (y : F32In (c + 1) q x). f32-wider (omega arith) (le-refl q) y) (parts-in q n (c + 1) (omega arith))))
+      (λ (k : q ≤ c). more (f32-wider (le-refl p) high (f32-in s p c)) all)
+
+  pub f32s-in : (p q : ℕ) → p ≤ q → All (F32In p q) (f32s s (parts s p q))
+  f32s-in p q h = parts-in q (q - p) p h
+
+  pub floats-bounded : (p q n : ℕ) → Bounded (nth (floats (f32s s (parts s p q))) n)
+  floats-bounded p q n = picked (λ (l : List Float). Bounded (nth l n)) (allFloats (f32s s (parts s p q))) _ _ (all-bounded (parts s p q) n) zero-bounded
+
+  pub ints-small : (p q n : ℕ) → Small (nthInt (ints (i32s s (parts s p q))) n)
+  ints-small p q n = picked (λ (l : List ℤ). Small (nthInt l n)) (allInts (i32s s (parts s p q))) _ _ (ints-read s p q .fine n) zero-small
+
+-- ---- a tag
+
+-- whether a tag is none that holds others, and its record is in range
+abbrev pub sound : AnimatedTag → Bool
+sound x = pick (ltb (kindOf x) 49) (inRange (recordOf x)) false
+
+abbrev pub Sound : AnimatedTag → Type 0
+Sound x = sound x ≡ true
+
+pub sound-tag : (x : AnimatedTag) → Sound x → (kindOf x < 49) × (inRange (recordOf x) ≡ true)
+sound-tag x h = go (ltb (kindOf x) 49) refl h
+  where
+    go : (b : Bool) → ltb (kindOf x) 49 ≡ b → pick b (inRange (recordOf x)) false ≡ true → (kindOf x < 49) × (inRange (recordOf x) ≡ true)
+    go true e g = (ltb-true (kindOf x) 49 e, g)
+    go false e g = absurd (true≢false (sym g))
+
+-- every tag of the table is in range when its words are
+abbrev pub Ranged : Shape → Type 0
+Ranged (float f) = (x : Float) → Fits Range.float (bits x) → Sound (f x)
+Ranged (pair f) = (x y : Float) → Fits Range.float (bits x) → Fits Range.float (bits y) → Sound (f x y)
+Ranged (ranged a b f) = (n : ℕ) → Fits (range a b) n → Sound (f n)
+Ranged (flag f) = (b : Bool) → Fits (range 0 1) (flagWord b) → Sound (f b)
+Ranged (alpha f) = (n : ℕ) → Fits (range 0 255) n → Sound (f n)
+Ranged (colour f) = (c : Tag.Rgb) → Fits (range 0 255) (c .red) → Fits (range 0 255) (c .green) → Fits (range 0 255) (c .blue) → Sound (f c)
+Ranged (clip f g) =
+    ((x y z w : Float) → Fits Range.float (bits x) → Fits Range.float (bits y) → Fits Range.float (bits z) → Fits Range.float (bits w) → Sound (f x y z w))
+    × ((x : Tag.Part) → partFits (x .offset) (x .size) ≡ true → Sound (g x))
+Ranged (beat k) = Unit
+Ranged fad = Unit
+Ranged fade = Unit
+Ranged move = Unit
+Ranged edge = Unit
+Ranged baseline = Unit
+Ranged weight = Unit
+Ranged reset = Unit
+Ranged unknown = Unit
+
+pub every : Every Ranged names
+unfolding names records inRange rows joinFits
+every =
+    gather Ranged names (Every Ranged names) (λ e. e)
+    tt tt tt (λ x h. rw h) (λ x h. rw h) (λ x h. rw h) (λ x h. rw h) (λ x y h k. rw (h, k)) (λ x y h k. rw (h, k)) (λ x h. rw h) tt
+    (λ x h. rw h) (λ x h. rw h) (λ x h. rw h) (λ x h. rw h) (λ x h. rw h) (λ x h. rw h) tt (λ n h. rw h)
+    (λ x h. rw h) (λ x h. rw h) (λ x h. rw h) (λ x h. rw h) (λ x h. rw h) (λ x h. rw h) (λ n h. rw h)
+    (λ n h. rw h) (λ n h. rw h) tt tt tt tt (λ c h k l. rw (h, k, l)) (λ c h k l. rw (h, k, l)) (λ c h k l. rw (h, k, l)) (λ c h k l. rw (h, k, l))
+    (λ c h k l. rw (h, k, l)) (λ n h. rw h) (λ n h. rw h) (λ n h. rw h) (λ n h. rw h) (λ n h. rw h) (λ x y z w h k l m. rw (h, k, l, m), λ x h. rw h)
+    (λ x y z w h k l m. rw (h, k, l, m), λ x h. rw h) (λ n h. rw h) tt (λ b h. rw h) (λ b h. rw h) (λ b h. rw h) tt
