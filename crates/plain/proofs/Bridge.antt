@@ -23,11 +23,12 @@ use Rattle.tag.specs.declared.Record.{Record}
 use Rattle.tag.specs.Table.{rec, records, bits, oneFloat, twoFloats, fourFloats, oneNumber, partRecord, rgbRecord, flagWord, kindWord}
 use Rattle.plain.specs.declared.Kept.{Kept}
 use Rattle.plain.specs.declared.Kept.the-variants as Kept
-use Rattle.plain.specs.Names.{Named, Shape, float, pair, ranged, flag, alpha, colour, clip, beat, fad, fade, move, edge, baseline, weight, reset, unknown, names, lookup, keyAt}
+use Rattle.plain.specs.Names.{Shape, float, pair, ranged, flag, alpha, colour, clip, beat, fad, fade, move, edge, baseline, weight, reset, unknown, names, lookup, keyAt}
 use Rattle.plain.specs.Plain.{kept, far, part, mapF32, mapAlpha, mapColour, floatOf, f32s, firstLong, clipOf, beatOf, nth, shaped, isFn, isNamedReset, plainAt}
 use Rattle.plain.specs.Coded.{recordOf, keptOf, kindOf, codeOf, keepWord, beatWord, edgeWord, baselineWord, longOr, nthWord, alphaTag, colourTag, clipTag, drawingTag, numbersAt, shapedTag}
 use Rattle.plain.proofs.Numbers.{Back, f32-back, i32-small}
 use Rattle.plain.proofs.Commas.{Floats, floats-read, floats-length, ints-read}
+use Rattle.plain.proofs.Every.{Every, gather, find}
 use Rattle.plain.proofs.Gives.{Gives, nothing, late, tag, gives-kept, Single, gives-single, gives-pick, gives-long, gives-pair, gives-move, gives-fad, gives-fade, gives-ranged, gives-weight, gives-flag, gives-reset}
 
 -- ---- every tag of the table has one record, of one kind, with its numbers in order
@@ -58,34 +59,16 @@ Sound weight = Unit
 Sound reset = Unit
 Sound unknown = Unit
 
-abbrev Every : List Named → Type 0
-Every [] = Unit
-Every (n ∷ l) = Sound (n .shape) × Every l
-
--- from a proof for each entry, one behind the other
-abbrev Each : List Named → Type 0 → Type 0
-Each [] X = X
-Each (n ∷ l) X = Sound (n .shape) → Each l X
-
-gather : (l : List Named) (X : Type 0) → (Every l → X) → Each l X
-gather [] X f = f tt
-gather (n ∷ l) X f = λ h. gather l X (λ e. f (h, e))
-
-sound : Every names
+sound : Every Sound names
 unfolding names records
 sound =
-    gather names (Every names) (λ e. e)
+    gather Sound names (Every Sound names) (λ e. e)
     tt tt tt (λ x. refl) (λ x. refl) (λ x. refl) (λ x. refl) (λ x y. refl) (λ x y. refl) (λ x. refl) tt
     (λ x. refl) (λ x. refl) (λ x. refl) (λ x. refl) (λ x. refl) (λ x. refl) tt (lit< tt, λ n. refl)
     (λ x. refl) (λ x. refl) (λ x. refl) (λ x. refl) (λ x. refl) (λ x. refl) (lit< tt, λ n. refl)
     (lit< tt, λ n. refl) (lit< tt, λ n. refl) tt tt tt tt (λ x. refl) (λ x. refl) (λ x. refl) (λ x. refl)
     (λ x. refl) (λ x. refl) (λ x. refl) (λ x. refl) (λ x. refl) (λ x. refl) (λ x y z w. refl, λ x. refl)
     (λ x y z w. refl, λ x. refl) (lit< tt, λ n. refl) tt (λ x. refl) (λ x. refl) (λ x. refl) tt
-
-find : (k : ℕ) (l : List Named) → Every l → Sound (lookup k l)
-unfolding lookup
-find k [] e = tt
-find k (n ∷ l) e = picked Sound (eqb k (n .key)) (n .shape) (lookup k l) (e .0) (find k l (e .1))
 
 -- ---- one number
 
@@ -150,7 +133,7 @@ gives reset h s p q = gives-reset s p q
 gives unknown h s p q = nothing
 
 pub bridge : (k : ℕ) (s : List ℕ) (p q : ℕ) → shapedTag (codeOf (lookup k names)) s p q ≡ keptOf (shaped (lookup k names) s p q)
-bridge k s p q = gives-kept (gives (lookup k names) (find k names sound) s p q)
+bridge k s p q = gives-kept (gives (lookup k names) (find Sound tt k names sound) s p q)
 
 -- ---- a plain tag has one record
 
@@ -159,7 +142,7 @@ module _ (s : List ℕ) (i m p q : ℕ) where
   unfolding plainAt records
   plain-single =
       let k = keyAt s i m in
-      picked Single (isFn s i m) _ _ refl (picked Single (isNamedReset s i m p q) _ _ refl (gives-single (gives (lookup k names) (find k names sound) s p q)))
+      picked Single (isFn s i m) _ _ refl (picked Single (isNamedReset s i m p q) _ _ refl (gives-single (gives (lookup k names) (find Sound tt k names sound) s p q)))
 
   pub kept-single : (x : AnimatedTag) → plainAt s i m p q ≡ kept x → records x ≡ recordOf x ∷ []
   kept-single x e = subst Single e plain-single

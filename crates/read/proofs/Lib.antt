@@ -8,7 +8,6 @@ pub mod MovedNumbers
 pub mod MovedPlain
 pub mod Moved
 pub mod Inside
-pub mod Every
 pub mod Words
 pub mod Fine
 pub mod Parts

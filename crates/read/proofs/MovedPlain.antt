@@ -10,7 +10,6 @@ use lib.IntN.{ℤ, pos, negsuc}
 use lib.Ieee.{Float}
 use borrow.Author.Tests.{ne-eqb}
 use Rattle.scan.specs.Scan.{pick, trimStart, trimEnd}
-use Rattle.scan.proofs.Laws.{picked}
 use Rattle.float.specs.Float.{roundAway, roundByte}
 use Rattle.numeral.specs.Numeral.{F32, tooLong, number, f32At, I32, whole, i32At}
 use Rattle.numeral.specs.declared.Numeral.{Numeral}
@@ -21,8 +20,9 @@ use Rattle.colour.specs.declared.Colour as C
 use Rattle.colour.specs.declared.Colour.the-variants.{Rgb}
 use Rattle.tag.specs.Tag as Tag
 use Rattle.tag.specs.Tag.{AnimatedTag, Be, Pbo, R}
-use Rattle.plain.specs.Names.{Named, Shape, float, pair, ranged, flag, alpha, colour, clip, beat, fad, fade, move, edge, baseline, weight, reset, unknown, names, lookup, lower, key, keyAt}
+use Rattle.plain.specs.Names.{Shape, float, pair, ranged, flag, alpha, colour, clip, beat, fad, fade, move, edge, baseline, weight, reset, unknown, names, lookup, lower, key, keyAt}
 use Rattle.plain.specs.Plain.{One, no, long, kept, far, part, mapF32, f32s, i32s, allFloats, floatsIn, floats, ints, nth, firstLong, pairOf, moveOf, fadOf, fadeOf, isFar, rangedOf, weightOf, flagOf, mapAlpha, mapColour, clipOf, resetOf, beatOf, shaped, isFn, isNamedReset, plainAt, nthInt}
+use Rattle.plain.proofs.Every.{Every, gather, find}
 use Rattle.read.specs.Moved.{movedPart, movedReset, movedTag}
 use Rattle.read.proofs.MovedScan.{Window, On, either, if-eq, if-le, if-lt, next, gap, ltb-on, leb-on, byte, trim-start-on, trim-end-on}
 use Rattle.read.proofs.MovedNumbers.{movedF32, Parts, none, more, alpha-on, colour-on, i32-on, f32-on, parts-on}
@@ -54,33 +54,15 @@ Still k weight = Unit
 Still k reset = Unit
 Still k unknown = Unit
 
-abbrev Every : ℕ → List Named → Type 0
-Every k [] = Unit
-Every k (n ∷ l) = Still k (n .shape) × Every k l
-
--- from a proof for each entry, one behind the other
-abbrev Each : ℕ → List Named → Type 0 → Type 0
-Each k [] X = X
-Each k (n ∷ l) X = Still k (n .shape) → Each k l X
-
-gather : (k : ℕ) (l : List Named) (X : Type 0) → (Every k l → X) → Each k l X
-gather k [] X f = f tt
-gather k (n ∷ l) X f = λ h. gather k l X (λ e. f (h, e))
-
-still : (k : ℕ) → Every k names
+still : (k : ℕ) → Every (Still k) names
 unfolding names movedTag
 still k =
-    gather k names (Every k names) (λ e. e)
+    gather (Still k) names (Every (Still k) names) (λ e. e)
     tt tt tt (λ x. refl) (λ x. refl) (λ x. refl) (λ x. refl) (λ x y. refl) (λ x y. refl) (λ x. refl) tt
     (λ x. refl) (λ x. refl) (λ x. refl) (λ x. refl) (λ x. refl) (λ x. refl) tt (λ n. refl)
     (λ x. refl) (λ x. refl) (λ x. refl) (λ x. refl) (λ x. refl) (λ x. refl) (λ n. refl) (λ n. refl) (λ n. refl) tt tt tt tt
     (λ c. refl) (λ c. refl) (λ c. refl) (λ c. refl) (λ c. refl) (λ n. refl) (λ n. refl) (λ n. refl) (λ n. refl) (λ n. refl)
     (λ x y z w. refl, λ x. refl) (λ x y z w. refl, λ x. refl) (λ n. refl) tt (λ b. refl) (λ b. refl) (λ b. refl) tt
-
-find : (k key : ℕ) (l : List Named) → Every k l → Still k (lookup key l)
-unfolding lookup
-find k key [] e = tt
-find k key (n ∷ l) e = picked (Still k) (eqb key (n .key)) (n .shape) (lookup key l) (e .0) (find k key l (e .1))
 
 -- ---- what numbers make, by the shape of the parameter
 
@@ -264,4 +246,4 @@ module _ {w s : List ℕ} {k n : ℕ} (v : Window w s k n) where
           let end : On k (n + 2) m′ m = record { is = g .is; fits = omega arith } in
           rw (is-fn-on, is-named-reset-on, key-at-on)
           (either (Moves k) (isFn s i m) (rw (part-on two end, part-on c (trim-end-on v c d)))
-          (either (Moves k) (isNamedReset s i m p q) (rw (part-on one end)) (shaped-on c d (lookup (keyAt s i m) names) (find k (keyAt s i m) names (still k)))))
+          (either (Moves k) (isNamedReset s i m p q) (rw (part-on one end)) (shaped-on c d (lookup (keyAt s i m) names) (find (Still k) tt (keyAt s i m) names (still k)))))

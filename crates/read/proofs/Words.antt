@@ -31,8 +31,8 @@ use Rattle.plain.specs.Plain.{part, floatOf, f32s, i32s, allFloats, floatsIn, f
 use Rattle.plain.specs.Coded.{recordOf, kindOf}
 use Rattle.plain.proofs.Numbers.{Small, zero-small}
 use Rattle.plain.proofs.Commas.{ints-read}
+use Rattle.plain.proofs.Every.{Every, gather}
 use Rattle.read.proofs.Inside.{tested, span-to-high, All, all, more, all-map, F32In, no-numeral, too-long, a-number, f32-wider, f32-in}
-use Rattle.read.proofs.Every.{Every, gather}
 
 -- ---- words
 
