@@ -8,6 +8,12 @@ use Rattle.refusal.specs.declared.Refusal.{Refusal}
 use Rattle.read.specs.Reading.{answer, after, placesOf, groundNumber, groundPlace, recordsRead}
 use Rattle.read.specs.declared.Reading.{Reading}
 use Rattle.read.specs.declared.Span.{Span}
+use Rattle.refusal.specs.declared.Checked.{Checked}
+use Rattle.refusal.specs.declared.Checked.the-variants.{Good, Bad}
+use Rattle.drawing.specs.Answer as Drawing
+use Rattle.drawing.specs.Answer.{commandsDrawn}
+use Rattle.drawing.specs.declared.Drawing.{Drawing}
+use Rattle.drawing.specs.declared.Clip.{Clip}
 
 abbrev pub refusalWord : Refusal → ℕ
 refusalWord r = numberOf r * 2 ^ 48 + placeOf r % 2 ^ 32
@@ -20,3 +26,20 @@ readingWord r = groundNumber r * 2 ^ 48 + (groundPlace r + recordsRead r) % 2 ^ 
 pub record ReadingCall (s : List ℕ) (x : Span) (t : List ℕ) (r : ℕ) (u : List ℕ) : Type 0 where
   pub answered : r ≡ readingWord (answer s x (placesOf t))
   pub table : u ≡ after s x t
+
+-- an answer by its ground, its place or count, and the commands written
+abbrev pub drawingWord : Drawing → ℕ
+drawingWord d = Drawing.groundNumber d * 2 ^ 48 + (Drawing.groundPlace d + commandsDrawn d) % 2 ^ 32
+
+-- what the drawing call says: the number r, and the path table t before and u after
+pub record DrawingCall (s : List ℕ) (exponent : ℕ) (t : List ℕ) (r : ℕ) (u : List ℕ) : Type 0 where
+  pub answered : r ≡ drawingWord (Drawing.answer s exponent (Drawing.placesOf t))
+  pub path : u ≡ Drawing.after s exponent t
+
+-- a clip argument: the scale, and in bits 32 to 47 the offset at which the rest begins
+abbrev pub clipWordBy : Checked → Clip → ℕ
+clipWordBy Good c = c .from % 2 ^ 16 * 2 ^ 32 + c .scale
+clipWordBy (Bad r) c = refusalWord r
+
+abbrev pub clipWord : Clip → ℕ
+clipWord c = clipWordBy (c .checked) c

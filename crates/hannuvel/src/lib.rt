@@ -1,7 +1,8 @@
 // The C interface, declared in include/hannuvel.h. A call answers one number: bits 48 to 63 the refusal's ground, 0 for none; bits 32 to 47 an extra; bits 0 to 31 the value, or the refusal's place or count.
 ghost use mathlib.Core.Path.{_≡_};
 ghost use Rattle.read.specs.Reading.{wholeText, lessBraces};
-ghost use Rattle.hannuvel.specs.Packed.{refusalWord, readingWord, ReadingCall};
+ghost use Rattle.drawing.specs.Clip.{clipOf};
+ghost use Rattle.hannuvel.specs.Packed.{refusalWord, readingWord, ReadingCall, drawingWord, DrawingCall, clipWord};
 
 fn packed_refusal(r: refusal::Refusal) -> u64
     ensures { λ w. ⌜ w ≡ refusalWord r ⌝ }
@@ -34,4 +35,39 @@ pub extern "C" fn hannuvel_parse_raw_block(text: &[u8], table: &mut [u32]) -> u6
     ensures { λ r. ⌜ ReadingCall (now (text .entry)) (lessBraces (now (text .entry))) (now (table .entry)) r (now (table .exit)) ⌝ }
 {
     packed_reading(read::parse_raw_block(text, table))
+}
+
+fn packed_drawing(d: drawing::Drawing) -> u64
+    ensures { λ w. ⌜ w ≡ drawingWord d ⌝ }
+{
+    match d {
+        drawing::Drawing::Drawn(n) => (n % 4294967296) as u64,
+        drawing::Drawing::Refused(g) => packed_refusal(g),
+    }
+}
+
+// The path of a drawing at a scale exponent. The value is the number of commands written.
+#[no_mangle]
+pub extern "C" fn hannuvel_parse_drawing(text: &[u8], exponent: u32, path: &mut [u32]) -> u64
+    ensures { λ r. ⌜ DrawingCall (now (text .entry)) exponent (now (path .entry)) r (now (path .exit)) ⌝ }
+{
+    packed_drawing(drawing::parse_drawing(text, exponent, path))
+}
+
+fn packed_clip(c: drawing::Clip) -> u64
+    ensures { λ w. ⌜ w ≡ clipWord c ⌝ }
+{
+    let checked = c.checked;
+    match checked {
+        refusal::Checked::Bad(g) => packed_refusal(g),
+        refusal::Checked::Good => (c.from % 65536) as u64 * 4294967296 + c.scale as u64,
+    }
+}
+
+// A clip argument. The value is the scale, the extra the offset at which the rest of the argument begins.
+#[no_mangle]
+pub extern "C" fn hannuvel_split_clip_arg(text: &[u8]) -> u64
+    ensures { λ r. ⌜ r ≡ clipWord (clipOf (now (text .entry))) ⌝ }
+{
+    packed_clip(drawing::clip_at(text))
 }

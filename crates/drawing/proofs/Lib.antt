@@ -1,0 +1,6 @@
+pub mod Words
+pub mod Emitting
+pub mod Machine
+pub mod Turning
+pub mod Answering
+pub mod Clipping

@@ -1,0 +1,183 @@
+-- One turn of the machine: it gets on, and draws no more commands than it takes tokens.
+use mathlib.Core.Path.{_≡_, refl, sym, ap, _∙_}
+use mathlib.Core.List.{List, [], _∷_, _++_}
+use mathlib.Core.Bool.{Bool, true, false}
+use Prim.Native.Nat.{ℕ, zero, suc, _+_, _-_, _≤_, _<_}
+use native.Mathlib.Omega.{arith}
+use native.Mathlib.Nat.{le-refl}
+use lib.Ieee.{Float}
+use lib.ListN.{length, length-append}
+use Rattle.scan.specs.Scan.{pick}
+use Rattle.scan.proofs.Laws.{picked}
+use Rattle.tag.specs.declared.Record.{Record}
+use Rattle.drawing.specs.declared.Token.{Token}
+use Rattle.drawing.specs.declared.Token.the-variants.{Letter, Number, Refused, Other}
+use Rattle.drawing.specs.declared.Point.{Point}
+use Rattle.drawing.specs.declared.Ctrl.{Ctrl}
+use Rattle.drawing.specs.declared.Ctrl.the-variants.{One, Two, Three, Span}
+use Rattle.drawing.specs.declared.Mode.{Mode}
+use Rattle.drawing.specs.declared.Mode.the-variants.{Idle, Lines, Cubics, Spline}
+use Rattle.drawing.specs.declared.Pen.{Pen}
+use Rattle.drawing.specs.declared.Command.{Command}
+use Rattle.drawing.specs.declared.Command.the-variants.{Move, MoveOpen, Line, Cubic, Basis, Close, Unknown}
+use Rattle.drawing.specs.Tokens.{isLetter, untilLetter}
+use Rattle.drawing.specs.Drawing.{Read1, none1, point, Read3, none3, points, second, readPoint, third, thirdOf, secondOf, readThree, Turn, Gives, turned, behind, splinePoint, byMode, onPoint, settled, pointedBy, pointed, curveBy, curve, bareBy, bareTurn, continues, closing, movesBy, movesTo, command, commandOf, letterTurn, turnOf, walk, start, draw}
+
+-- what is read is shorter by two tokens, or by six
+abbrev Two1 : ℕ → Read1 → Type 0
+Two1 n none1 = Unit
+Two1 n (point p ts) = length ts + 2 ≤ n
+
+abbrev Two3 : ℕ → Read3 → Type 0
+Two3 n none3 = Unit
+Two3 n (points p q r ts) = length ts + 2 ≤ n
+
+second-shorter : (k x : Float) (ts : List Token) → Two1 (suc (length ts)) (second k x ts)
+second-shorter k x [] = tt
+second-shorter k x (Letter b ∷ ts) = tt
+second-shorter k x (Number y ∷ ts) = omega arith
+second-shorter k x (Refused p ∷ ts) = tt
+second-shorter k x (Other ∷ ts) = tt
+
+read-shorter : (k : Float) (ts : List Token) → Two1 (length ts) (readPoint k ts)
+read-shorter k [] = tt
+read-shorter k (Letter b ∷ ts) = tt
+read-shorter k (Number x ∷ ts) = second-shorter k x ts
+read-shorter k (Refused p ∷ ts) = tt
+read-shorter k (Other ∷ ts) = tt
+
+third-shorter : (n : ℕ) (p q : Point) (r : Read1) → Two1 n r → Two3 n (third p q r)
+third-shorter n p q none1 h = tt
+third-shorter n p q (point r ts) h = h
+
+weaker1 : (n m : ℕ) (r : Read1) → n ≤ m → Two1 n r → Two1 m r
+weaker1 n m none1 l h = tt
+weaker1 n m (point p ts) l h = omega arith
+
+three-shorter : (k : Float) (ts : List Token) → Two3 (length ts) (readThree k ts)
+three-shorter k ts = go (readPoint k ts) (read-shorter k ts)
+  where
+    last : (p : Point) (r : Read1) → Two1 (length ts) r → Two3 (length ts) (thirdOf k p r)
+    last p none1 h = tt
+    last p (point q us) h = third-shorter (length ts) p q (readPoint k us) (weaker1 (length us) (length ts) (readPoint k us) (omega arith) (read-shorter k us))
+
+    go : (r : Read1) → Two1 (length ts) r → Two3 (length ts) (secondOf k r)
+    go none1 h = tt
+    go (point p us) h = last p (readPoint k us) (weaker1 (length us) (length ts) (readPoint k us) (omega arith) (read-shorter k us))
+
+until-shorter : (ts : List Token) → length (untilLetter ts) ≤ length ts
+unfolding untilLetter
+until-shorter [] = omega arith
+until-shorter (t ∷ ts) = picked (λ (l : List Token). length l ≤ suc (length ts)) (isLetter t) (t ∷ ts) (untilLetter ts) (le-refl (suc (length ts))) (let h = until-shorter ts in omega arith)
+
+-- of a turn with n tokens behind its first
+pub record Counts (n : ℕ) (u : Turn) : Type 0 where
+  pub shorter : length (u .rest) ≤ n
+  pub few : length (u .path) + length (u .rest) ≤ suc n
+
+nothing : (n : ℕ) (pen : Pen) (ts : List Token) → length ts ≤ n → Counts n (turned pen [] ts)
+nothing n pen ts h = record { shorter = h; few = omega arith }
+
+-- a point draws at most two commands
+spline-two : (cur : Point) (opened : Bool) (c : Ctrl) (p : Point) → length (splinePoint cur opened c p .path) ≤ 2
+spline-two cur opened (One a) p = omega arith
+spline-two cur opened (Two a b) p = omega arith
+spline-two cur opened (Three a b c) p = omega arith
+spline-two cur opened (Span b c) p = omega arith
+
+point-two : (m : Mode) (pen : Pen) (p : Point) → length (byMode m pen p .path) ≤ 2
+point-two Idle pen p = omega arith
+point-two Lines pen p = omega arith
+point-two Cubics pen p = omega arith
+point-two (Spline c) pen p = spline-two (pen .cur) (pen .opened) c p
+
+pointed-counts : (pen : Pen) (r : Read1) (ts : List Token) → Two1 (suc (length ts)) r → Counts (length ts) (pointedBy pen r ts)
+pointed-counts pen none1 ts h = nothing (length ts) (settled pen) ts (le-refl (length ts))
+pointed-counts pen (point p rest) ts h =
+    let w = point-two (pen .mode) pen p in
+    record { shorter = omega arith; few = omega arith }
+
+curve-counts : (pen : Pen) (r : Read3) (ts : List Token) → Two3 (suc (length ts)) r → Counts (length ts) (curveBy pen r ts)
+curve-counts pen none3 ts h = nothing (length ts) pen ts (le-refl (length ts))
+curve-counts pen (points p q r rest) ts h = record { shorter = omega arith; few = omega arith }
+
+bare-counts : (m : Mode) (k : Float) (pen : Pen) (t : Token) (ts : List Token) → Counts (length ts) (bareBy m k pen (t ∷ ts) ts)
+bare-counts Idle k pen t ts = nothing (length ts) pen ts (le-refl (length ts))
+bare-counts Lines k pen t ts = pointed-counts pen (readPoint k (t ∷ ts)) ts (read-shorter k (t ∷ ts))
+bare-counts Cubics k pen t ts = curve-counts pen (readThree k (t ∷ ts)) ts (three-shorter k (t ∷ ts))
+bare-counts (Spline c) k pen t ts = pointed-counts pen (readPoint k (t ∷ ts)) ts (read-shorter k (t ∷ ts))
+
+closing-one : (a b : Bool) → length (closing a b) ≤ 1
+closing-one false b = omega arith
+closing-one true false = omega arith
+closing-one true true = omega arith
+
+moves-counts : (closes : Bool) (pen : Pen) (r : Read1) (ts : List Token) → Two1 (length ts) r → Counts (length ts) (movesBy closes pen r ts)
+moves-counts closes pen none1 ts h = nothing (length ts) pen ts (le-refl (length ts))
+moves-counts closes pen (point p rest) ts h =
+    let w = closing-one closes (pen .opened) in
+    record { shorter = omega arith; few = simp length-append (omega arith) }
+
+command-counts : (c : Command) (k : Float) (pen : Pen) (ts : List Token) → Counts (length ts) (command c k pen ts)
+command-counts Move k pen ts = moves-counts true pen (readPoint k ts) ts (read-shorter k ts)
+command-counts MoveOpen k pen ts = moves-counts false pen (readPoint k ts) ts (read-shorter k ts)
+command-counts Line k pen ts = nothing (length ts) _ ts (le-refl (length ts))
+command-counts Cubic k pen ts = nothing (length ts) _ ts (le-refl (length ts))
+command-counts Basis k pen ts = nothing (length ts) _ ts (le-refl (length ts))
+command-counts Close k pen ts = record { shorter = le-refl (length ts); few = omega arith }
+command-counts Unknown k pen ts = nothing (length ts) pen (untilLetter ts) (until-shorter ts)
+
+pub turn-counts : (t : Token) (k : Float) (pen : Pen) (ts : List Token) → Counts (length ts) (turnOf t k pen (t ∷ ts) ts)
+unfolding letterTurn
+turn-counts (Letter b) k pen ts =
+    picked (Counts (length ts)) (continues (pen .mode) b) (turned pen [] ts) (command (commandOf b) k (settled pen) ts)
+    (nothing (length ts) pen ts (le-refl (length ts)))
+    (command-counts (commandOf b) k (settled pen) ts)
+turn-counts (Number x) k pen ts = bare-counts (pen .mode) k pen (Number x) ts
+turn-counts (Refused p) k pen ts = bare-counts (pen .mode) k pen (Refused p) ts
+turn-counts Other k pen ts = bare-counts (pen .mode) k pen Other ts
+
+-- ---- more turns than there are tokens change nothing
+
+module _ (k : Float) where
+  fuel : (n m : ℕ) (pen : Pen) (ts : List Token) → length ts ≤ n → length ts ≤ m → walk k n pen ts ≡ walk k m pen ts
+  unfolding walk
+  fuel zero zero pen ts a b = refl
+  fuel zero (suc m) pen [] a b = refl
+  fuel zero (suc m) pen (t ∷ ts) a b = absurd (omega arith)
+  fuel (suc n) zero pen [] a b = refl
+  fuel (suc n) zero pen (t ∷ ts) a b = absurd (omega arith)
+  fuel (suc n) (suc m) pen [] a b = refl
+  fuel (suc n) (suc m) pen (t ∷ ts) a b =
+      let u = turnOf t k pen (t ∷ ts) ts in
+      let c = turn-counts t k pen ts in
+      ap (λ (l : List Record). u .path ++ l) (fuel n m (u .pen) (u .rest) (omega (arith, c .shorter)) (omega (arith, c .shorter)))
+
+  -- what is still to come from a pen and the tokens left
+  abbrev pub left : Pen → List Token → List Record
+  left pen ts = walk k (length ts) pen ts
+
+  pub left-end : (pen : Pen) (ts : List Token) → ts ≡ [] → left pen ts ≡ []
+  unfolding walk
+  left-end pen ts e = rw e
+
+  pub left-turn : (pen : Pen) (t : Token) (all ts : List Token) → all ≡ t ∷ ts → left pen all ≡ turnOf t k pen all ts .path ++ left (turnOf t k pen all ts .pen) (turnOf t k pen all ts .rest)
+  unfolding walk
+  left-turn pen t all ts e =
+      let u = turnOf t k pen (t ∷ ts) ts in
+      let c = turn-counts t k pen ts in
+      rw e (ap (λ (l : List Record). u .path ++ l) (fuel (length ts) (length (u .rest)) (u .pen) (u .rest) (c .shorter) (le-refl (length (u .rest)))))
+
+  -- a drawing gives at most as many commands as it has tokens
+  walk-few : (n : ℕ) (pen : Pen) (ts : List Token) → length (walk k n pen ts) ≤ length ts
+  unfolding walk
+  walk-few zero pen ts = omega arith
+  walk-few (suc n) pen [] = omega arith
+  walk-few (suc n) pen (t ∷ ts) =
+      let u = turnOf t k pen (t ∷ ts) ts in
+      let c = turn-counts t k pen ts in
+      let i = walk-few n (u .pen) (u .rest) in
+      simp length-append (omega (arith, c .few, i))
+
+  pub few-commands : (ts : List Token) → length (draw k ts) ≤ length ts
+  few-commands ts = walk-few (length ts) start ts

@@ -1,0 +1,37 @@
+use mathlib.Core.Path.{_≡_, refl, sym, ap, _∙_}
+use borrow.Author.Needs.{needs}
+use Rattle.drawing.proofs.clip_at.Statement.{statement}
+use Rattle.drawing.proofs.clip_at.Tie as tie
+use Rattle.drawing.proofs.clip_at.Reads as reads
+use Rattle.drawing.proofs.clip_at.Lts as lts
+use Rattle.refusal.proofs.check_text.Reads as check-text-reads
+use Rattle.drawing.proofs.clip_parts.Reads as clip-parts-reads
+
+check-text-requires : tie.Need-check-text-requires
+check-text-requires c κs = search needs
+
+enum-known-checked : tie.Need-enum-known-checked
+enum-known-checked c = search needs
+
+enum-told : tie.Need-enum-told
+enum-told c = search needs
+
+clip-parts-requires : tie.Need-clip-parts-requires
+clip-parts-requires c κs = search needs
+
+returns : tie.Need-returns
+returns c = rw (sym (c .before .before .before .check-text .ensures) ∙ c .before .checked .given .1)
+
+returns-2 : tie.Need-returns-2
+returns-2 c = rw (sym (c .before .before .before .check-text .ensures) ∙ c .before .enum-told .given .1) (c .clip-parts .ensures)
+
+pub clip-at-spec : {M : Type 1} → statement M
+clip-at-spec =
+    tie.close
+    (tie.spec
+    check-text-requires
+    enum-known-checked
+    enum-told
+    clip-parts-requires
+    returns
+    returns-2)

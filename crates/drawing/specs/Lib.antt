@@ -1,0 +1,5 @@
+pub mod Tokens
+pub mod Drawing
+pub mod Answer
+pub mod Clip
+pub mod Sheet

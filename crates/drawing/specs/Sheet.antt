@@ -1,0 +1,137 @@
+-- Worked examples, by computation: a drawing and its commands, or its refusal.
+use mathlib.Core.Path.{_≡_, refl}
+use mathlib.Core.List.{List, [], _∷_, map}
+use mathlib.Core.Bool.{Bool}
+use Prim.Native.Nat.{ℕ}
+use lib.Ieee.{round, toBits, ofInt, add, mul, div, sum}
+use lib.ListN.{length}
+use Prim.Native.Char.{code}
+use Prim.Native.String.{String}
+use Prim.Native.String as String
+use Rattle.scan.specs.Scan.{span, skip, skipBack, blankAt, blankBefore}
+use Rattle.numeral.specs.Numeral.{value, wholeNumber, splitAt, exponentAt, floatOf, f32Of}
+use Rattle.tag.specs.declared.Record.{Record}
+use Rattle.tag.specs.Table.{rec}
+use Rattle.refusal.specs.declared.Refusal.the-variants.{TextTooLong, NotAscii, NumeralTooLong, ScaleTooLarge, NoRoom}
+use Rattle.drawing.specs.declared.Drawing.{Drawing}
+use Rattle.drawing.specs.declared.Drawing.the-variants.{Drawn, Refused}
+use Rattle.refusal.specs.declared.Checked.the-variants.{Good, Bad}
+use Rattle.drawing.specs.declared.Clip.{Clip}
+use Rattle.drawing.specs.Clip.{clip, clipParts, clipOf, restOf}
+use Rattle.drawing.specs.Tokens.{spells, special, tokenOf, wordEnd, tokens, untilLetter}
+use Rattle.drawing.specs.Drawing.{scaleOf, scaled, weighed, commandOf, letterTurn, walk}
+use Rattle.drawing.specs.Answer.{tokensGround, ground, drawing, answer}
+use Rattle.refusal.specs.Refusal.{textGround}
+
+-- the bytes of an ASCII text
+abbrev pub bytes : String → List ℕ
+bytes String.[] = []
+bytes (String._∷_ c t) = code c ∷ bytes t
+
+-- the commands of the sheet, and some numbers as f32
+abbrev move : ℕ → ℕ → Record
+move x y = rec 1 x y 0 0 0 0 0
+
+abbrev line : ℕ → ℕ → Record
+line x y = rec 2 x y 0 0 0 0 0
+
+abbrev cubic : ℕ → ℕ → ℕ → ℕ → ℕ → ℕ → Record
+cubic a b c d e f = rec 3 a b c d e f 0
+
+abbrev close : Record
+close = rec 4 0 0 0 0 0 0 0
+
+abbrev half : ℕ
+half = 0x3F000000
+
+abbrev n1 : ℕ
+n1 = 0x3F800000
+
+abbrev n2 : ℕ
+n2 = 0x40000000
+
+abbrev n3 : ℕ
+n3 = 0x40400000
+
+abbrev n4 : ℕ
+n4 = 0x40800000
+
+abbrev n5 : ℕ
+n5 = 0x40A00000
+
+abbrev n6 : ℕ
+n6 = 0x40C00000
+
+-- that each drawing, at its exponent, has its commands
+abbrev pub Draws : List (String × ℕ × List Record) → Type 0
+Draws rows = map (λ (r : String × ℕ × List Record). drawing (bytes (r .0)) (r .1)) rows ≡ map (λ (r : String × ℕ × List Record). r .2) rows
+
+-- 01, Sheet
+pub sheet : drawing (bytes "m 0 0 s 6 0 6 6 0 6") 1 ≡ move 0 0 ∷ line n5 n1 ∷ cubic n6 n2 n6 n4 n5 n5 ∷ []
+unfolding round toBits ofInt add mul div sum span skip skipBack blankAt blankBefore value splitAt exponentAt floatOf f32Of spells special tokenOf wordEnd tokens untilLetter scaleOf scaled weighed commandOf letterTurn walk
+sheet = refl
+
+pub paths : Draws (
+    -- m closes an open subpath, n does not
+    ("m 0 0 l 1 1 m 2 2", 1, move 0 0 ∷ line n1 n1 ∷ close ∷ move n2 n2 ∷ []) ∷
+    ("m 0 0 l 1 1 n 2 2", 1, move 0 0 ∷ line n1 n1 ∷ move n2 n2 ∷ []) ∷
+    -- spare pairs are lines; the exponent halves
+    ("m 0 0 1 2 n 2 2 4 4", 2, move 0 0 ∷ line half n1 ∷ move n1 n1 ∷ line n2 n2 ∷ []) ∷
+    -- c closes, and what is behind it is passed over; an unknown letter is passed over up to the next one
+    ("c 1 1 x 2 2 3 ? l 4 4 5", 0, close ∷ line n4 n4 ∷ []) ∷
+    -- m without a point changes nothing
+    ("l 1 1 m 5 ? 2 2", 1, line n1 n1 ∷ line n2 n2 ∷ []) ∷
+    -- p continues a spline, P draws lines
+    ("s 6 0 p 6 6 p 0 6", 1, line n5 n1 ∷ cubic n6 n2 n6 n4 n5 n5 ∷ []) ∷
+    ("s 6 0 P 6 6", 1, line n6 n6 ∷ []) ∷
+    -- three control points draw nothing
+    ("s 6 0 6 6 l 1 2", 1, line n1 n2 ∷ []) ∷
+    ("b 1 1 2 2 3 3 4 4 5 5 ? 1 1 2 2 3 3", 1, cubic n1 n1 n2 n2 n3 n3 ∷ cubic n1 n1 n2 n2 n3 n3 ∷ []) ∷
+    [])
+unfolding round toBits ofInt add mul div sum span skip skipBack blankAt blankBefore value splitAt exponentAt floatOf f32Of spells special tokenOf wordEnd tokens untilLetter scaleOf scaled weighed commandOf letterTurn walk
+paths = refl
+
+-- that each drawing, at its exponent and with its places, has its answer
+abbrev pub Answers : List (String × ℕ × ℕ × Drawing) → Type 0
+Answers rows = map (λ (r : String × ℕ × ℕ × Drawing). answer (bytes (r .0)) (r .1) (r .2)) rows ≡ map (λ (r : String × ℕ × ℕ × Drawing). r .3) rows
+
+pub answers : Answers (
+    ("m 1 2", 1, 1, Drawn 1) ∷
+    ("m 1 2", 32, 1, Drawn 1) ∷
+    ("m 1 2 c", 33, 0, Refused ScaleTooLarge) ∷
+    ("m 1 2 c", 1, 1, Refused (NoRoom 2)) ∷
+    ("m 1 2 x 1e5 c", 33, 0, Refused (NumeralTooLong 8)) ∷
+    ("m 1 2 -iNf", 1, 9, Refused (NumeralTooLong 6)) ∷
+    ("m 1 +Infinity 2 nan", 1, 9, Refused (NumeralTooLong 4)) ∷
+    ("infinit nano +-inf 1e", 1, 0, Drawn 0) ∷
+    ("1234567890 1e5", 1, 0, Refused (NumeralTooLong 0)) ∷
+    [])
+unfolding round toBits ofInt add mul div sum span skip skipBack blankAt blankBefore value splitAt exponentAt floatOf f32Of spells special tokenOf wordEnd tokens untilLetter scaleOf scaled weighed commandOf letterTurn walk textGround tokensGround ground answer
+answers = refl
+
+-- that each clip argument has its parts
+abbrev pub Splits : List (String × Clip) → Type 0
+Splits rows = map (λ (r : String × Clip). clipOf (bytes (r .0))) rows ≡ map (λ (r : String × Clip). r .1) rows
+
+-- and hands back its rest
+abbrev pub Rests : List (String × String) → Type 0
+Rests rows = map (λ (r : String × String). restOf (bytes (r .0)) (clipOf (bytes (r .0)))) rows ≡ map (λ (r : String × String). bytes (r .1)) rows
+
+-- 01, Sheet: `2,m 0 0`: scale 2; `0,m`: 1; `,m`: 1, rest `,m`
+pub clips : Splits (
+    ("2,m 0 0", clip Good 2 2 7) ∷
+    ("0,m", clip Good 1 2 3) ∷
+    (",m", clip Good 1 0 2) ∷
+    (" 007 , m", clip Good 7 7 8) ∷
+    ("4294967295,m", clip Good 4294967295 11 12) ∷
+    (" 4294967296,m", clip Good 1 1 13) ∷
+    ("+2,m", clip Good 1 0 4) ∷
+    ("\t m 0 0", clip Good 1 2 7) ∷
+    ("2,\u{80}", clip (Bad (NotAscii 2)) 1 0 0) ∷
+    [])
+unfolding span skip skipBack blankAt blankBefore value wholeNumber clipParts textGround
+clips = refl
+
+pub rests : Rests (("2, m 0 0", "m 0 0") ∷ (",m", ",m") ∷ (" m 0, 0 ", "m 0, 0 ") ∷ ("3,", "") ∷ [])
+unfolding span skip skipBack blankAt blankBefore value wholeNumber clipParts textGround
+rests = refl

@@ -1,0 +1,43 @@
+use borrow.Author.Needs.{needs}
+use Rattle.hannuvel.proofs.packed_clip.Statement.{statement}
+use Rattle.hannuvel.proofs.packed_clip.Tie as tie
+use Rattle.hannuvel.proofs.packed_clip.Reads as reads
+use Rattle.hannuvel.proofs.packed_clip.Lts as lts
+use Rattle.hannuvel.proofs.packed_refusal.Reads as packed-refusal-reads
+
+enum-known-checked : tie.Need-enum-known-checked
+enum-known-checked c = search needs
+
+packed-refusal-requires : tie.Need-packed-refusal-requires
+packed-refusal-requires c κs = search needs
+
+enum-told : tie.Need-enum-told
+enum-told c = search needs
+
+mul-result : tie.Need-mul-result
+mul-result c = search needs
+
+cast-result : tie.Need-cast-result
+cast-result c = search needs
+
+add-result : tie.Need-add-result
+add-result c = search needs
+
+returns : tie.Need-returns
+returns c = rw (c .before .before .checked .given .1) (c .packed-refusal .ensures)
+
+returns-2 : tie.Need-returns-2
+returns-2 c = rw (c .before .before .enum-told .given .1)
+
+pub packed-clip-spec : {M : Type 1} → statement M
+packed-clip-spec =
+    tie.close
+    (tie.spec
+    enum-known-checked
+    packed-refusal-requires
+    enum-told
+    mul-result
+    cast-result
+    add-result
+    returns
+    returns-2)
