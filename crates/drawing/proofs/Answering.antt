@@ -1,17 +1,16 @@
 -- From turns to a drawing, and from a drawing to the answer.
-use mathlib.Core.Path.{_≡_, refl, sym, ap, subst, _∙_}
+use mathlib.Core.Path.{_≡_, refl, sym, subst, _∙_}
 use mathlib.Core.List.{List, [], _∷_, _++_}
-use mathlib.Core.Bool.{Bool, true, false}
+use mathlib.Core.Bool.{false}
 use mathlib.Core.Logic.{⊎-elim}
 use Prim.Native.Nat.{ℕ, _+_, _-_, _/_, _≤_, _<_, min}
 use native.Mathlib.Omega.{arith}
 use lib.Ieee.{Float}
-use lib.ListN.{length, take, drop}
+use lib.ListN.{length}
 use borrow.Author.Tests.{lt-ltb, le-ltb}
-use Rattle.scan.specs.Scan.{pick, inClass, spanTo}
 use Rattle.scan.proofs.Laws.{le-or-lt}
 use Rattle.refusal.specs.declared.Refusal.{Refusal}
-use Rattle.refusal.specs.declared.Refusal.the-variants.{TextTooLong, NotAscii, NumeralTooLong, ScaleTooLarge, NoRoom}
+use Rattle.refusal.specs.declared.Refusal.the-variants.{TextTooLong, ScaleTooLarge, NoRoom}
 use Rattle.tag.specs.declared.Record.{Record}
 use Rattle.drawing.specs.declared.Token.{Token}
 use Rattle.drawing.specs.declared.Pen.{Pen}
@@ -19,11 +18,10 @@ use Rattle.drawing.specs.declared.Stand.{Stand}
 use Rattle.drawing.specs.declared.Command.{Command}
 use Rattle.refusal.specs.declared.Checked.{Checked}
 use Rattle.refusal.specs.declared.Checked.the-variants.{Good, Bad}
-use Rattle.drawing.specs.declared.Drawing.{Drawing}
 use Rattle.drawing.specs.declared.Drawing.the-variants.{Drawn, Refused}
 use Rattle.drawing.specs.Tokens.{from}
 use Rattle.drawing.specs.Drawing.{scaleOf, settled, continues, command, commandOf, letterTurn, turnOf, Turn, draw, Emits, Turns}
-use Rattle.drawing.specs.Answer.{tokensGround, exponentGround, unless, ground, drawing, placesOf, roomFor, answer, after, Answered}
+use Rattle.drawing.specs.Answer.{tokensGround, exponentGround, unless, ground, drawing, answer, after, Answered}
 use Rattle.refusal.specs.Refusal.{textGround}
 use Rattle.drawing.proofs.Emitting.{emits-all, emits-join, emits-length}
 use Rattle.drawing.proofs.Machine.{left, left-turn}

@@ -4,3 +4,5 @@ pub mod Machine
 pub mod Turning
 pub mod Answering
 pub mod Clipping
+pub mod Within
+pub mod Finite

@@ -1,13 +1,12 @@
 -- One turn of the machine: it gets on, and draws no more commands than it takes tokens.
-use mathlib.Core.Path.{_≡_, refl, sym, ap, _∙_}
+use mathlib.Core.Path.{_≡_, refl, ap}
 use mathlib.Core.List.{List, [], _∷_, _++_}
 use mathlib.Core.Bool.{Bool, true, false}
-use Prim.Native.Nat.{ℕ, zero, suc, _+_, _-_, _≤_, _<_}
+use Prim.Native.Nat.{ℕ, zero, suc, _+_, _-_, _≤_}
 use native.Mathlib.Omega.{arith}
 use native.Mathlib.Nat.{le-refl}
 use lib.Ieee.{Float}
 use lib.ListN.{length, length-append}
-use Rattle.scan.specs.Scan.{pick}
 use Rattle.scan.proofs.Laws.{picked}
 use Rattle.tag.specs.declared.Record.{Record}
 use Rattle.drawing.specs.declared.Token.{Token}
@@ -21,7 +20,7 @@ use Rattle.drawing.specs.declared.Pen.{Pen}
 use Rattle.drawing.specs.declared.Command.{Command}
 use Rattle.drawing.specs.declared.Command.the-variants.{Move, MoveOpen, Line, Cubic, Basis, Close, Unknown}
 use Rattle.drawing.specs.Tokens.{isLetter, untilLetter}
-use Rattle.drawing.specs.Drawing.{Read1, none1, point, Read3, none3, points, second, readPoint, third, thirdOf, secondOf, readThree, Turn, Gives, turned, behind, splinePoint, byMode, onPoint, settled, pointedBy, pointed, curveBy, curve, bareBy, bareTurn, continues, closing, movesBy, movesTo, command, commandOf, letterTurn, turnOf, walk, start, draw}
+use Rattle.drawing.specs.Drawing.{Read1, none1, point, Read3, none3, points, second, readPoint, third, thirdOf, secondOf, readThree, Turn, turned, splinePoint, byMode, settled, pointedBy, curveBy, bareBy, continues, closing, movesBy, command, commandOf, letterTurn, turnOf, walk, start, draw}
 
 -- what is read is shorter by two tokens, or by six
 abbrev Two1 : ℕ → Read1 → Type 0

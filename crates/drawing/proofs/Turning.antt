@@ -1,9 +1,9 @@
 -- What the code's parts say, put together.
 use mathlib.Core.Path.{_≡_, refl, sym, ap, subst, _∙_}
-use mathlib.Core.List.{List, [], _∷_, _++_}
+use mathlib.Core.List.{List, [], _∷_}
 use mathlib.Core.Bool.{Bool, true, false}
 use mathlib.Core.Logic.{_⊎_, ⊎-elim}
-use Prim.Native.Nat.{ℕ, zero, suc, _+_, _-_, _*_, _%_, _^_, _≤_, _<_}
+use Prim.Native.Nat.{ℕ, _+_, _-_, _*_, _%_, _^_, _≤_, _<_}
 use native.Mathlib.Omega.{arith}
 use native.Mathlib.Nat.{one-mul, mod-eq-of-lt}
 use lib.Pow.{pow-lt}
@@ -22,7 +22,7 @@ use Rattle.drawing.specs.declared.Next.{Next}
 use Rattle.drawing.specs.declared.Next.the-variants.{End, Is}
 use Rattle.drawing.specs.declared.Point.{Point}
 use Rattle.drawing.specs.declared.Mode.{Mode}
-use Rattle.drawing.specs.declared.Mode.the-variants.{Idle, Lines, Cubics, Spline}
+use Rattle.drawing.specs.declared.Mode.the-variants.{Lines, Cubics}
 use Rattle.drawing.specs.declared.Pen.{Pen}
 use Rattle.drawing.specs.declared.Stroke.{Stroke}
 use Rattle.drawing.specs.declared.Stand.{Stand}
@@ -30,8 +30,8 @@ use Rattle.drawing.specs.declared.OnePoint.{OnePoint}
 use Rattle.drawing.specs.declared.OnePoint.the-variants.{No as NoPoint, At as PointAt}
 use Rattle.drawing.specs.declared.ThreePoints.{ThreePoints}
 use Rattle.drawing.specs.declared.ThreePoints.the-variants.{No as NoThree, At as ThreeAt}
-use Rattle.drawing.specs.Tokens.{isLetter, from, untilLetter, listed, Follows, Skips}
-use Rattle.drawing.specs.Drawing.{f0, f1, f2, f4, scaleOf, bez, spanEnd, spanOf, bareBy, bareTurn, Read1, none1, point, Read3, none3, points, scaled, second, readPoint, readThree, thirdOf, secondOf, moveTo, cubicTo, closed, closing, Turn, Gives, turned, penOf, onPoint, settled, pointed, curve, movesTo, Emits, read1, read3, ReadsPoint, ReadsThree, Stroked, Turns}
+use Rattle.drawing.specs.Tokens.{isLetter, from, untilLetter, Follows}
+use Rattle.drawing.specs.Drawing.{f0, f1, f2, f4, scaleOf, bez, spanEnd, spanOf, bareBy, bareTurn, none1, point, scaled, second, readPoint, thirdOf, secondOf, moveTo, cubicTo, closed, turned, penOf, onPoint, settled, pointed, curve, movesTo, Emits, ReadsPoint, ReadsThree, Stroked, Turns}
 use Rattle.drawing.specs.Answer.{tokensGround}
 use Rattle.drawing.proofs.Emitting.{emits-none, emits-join}
 

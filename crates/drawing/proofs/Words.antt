@@ -1,24 +1,22 @@
 -- One token after the other.
-use mathlib.Core.Path.{_≡_, refl, sym, ap, _∙_}
+use mathlib.Core.Path.{_≡_, refl}
 use mathlib.Core.List.{List, [], _∷_}
-use mathlib.Core.Bool.{Bool, true, false}
-use mathlib.Core.Logic.{⊎-elim}
+use mathlib.Core.Bool.{false}
 use Prim.Native.Nat.{ℕ, zero, suc, _+_, _-_, _≤_, _<_}
 use native.Mathlib.Omega.{arith}
 use native.Mathlib.Nat.{le-refl}
 use native.Mathlib.Numerals.{add-one}
-use lib.Dec.{ltb, eqb}
+use lib.Dec.{eqb}
 use lib.Ieee.{Float, binary32, toBits, ofBits}
 use lib.ListN.{length, getD, drop}
 use lib.Seq.{drop-cons}
 use borrow.Author.Tests.{eq-eqb, ne-eqb, lt-ltb, le-ltb}
-use Rattle.scan.specs.Scan.{pick, blankAt, trimStart, trimEnd}
-use Rattle.scan.proofs.Laws.{picked, le-or-lt, zero-or, skip-low, blank-at-fits}
+use Rattle.scan.specs.Scan.{blankAt, trimStart, trimEnd}
+use Rattle.scan.proofs.Laws.{picked, skip-low, blank-at-fits}
 use Rattle.numeral.specs.Numeral.{F32, none, tooLong, number, f32At, wordOfF32}
 use Rattle.numeral.specs.declared.Numeral.the-variants.{No, TooLong, Word}
 use Rattle.numeral.proofs.Reach.{number-in-reach}
-use Rattle.drawing.specs.declared.Token.{Token}
-use Rattle.drawing.specs.declared.Token.the-variants.{Letter, Number, Refused, Other}
+use Rattle.drawing.specs.declared.Token.the-variants.{Number, Refused, Other}
 use Rattle.drawing.specs.Tokens.{lower, spells, numeralToken, wordEnd, tokenEnd, tokenOf, tokens, from}
 
 -- ---- spelling

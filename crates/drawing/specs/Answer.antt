@@ -6,7 +6,6 @@ use lib.Dec.{ltb}
 use lib.ListN.{length}
 use Rattle.scan.specs.Scan.{pick}
 use Rattle.refusal.specs.Refusal.{numberOf, placeOf, mostPlaces, textGround}
-use Rattle.refusal.specs.declared.Refusal.{Refusal}
 use Rattle.refusal.specs.declared.Refusal.the-variants.{NumeralTooLong, ScaleTooLarge, NoRoom}
 use Rattle.tag.specs.declared.Record.{Record}
 use Rattle.tag.specs.Table.{laid, width}

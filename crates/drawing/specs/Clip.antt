@@ -1,6 +1,7 @@
 -- A clip argument: Rust's `split_clip_arg`.
+use mathlib.Core.Path.{_≡_}
 use mathlib.Core.List.{List}
-use Prim.Native.Nat.{ℕ, _+_, _-_}
+use Prim.Native.Nat.{ℕ, _+_, _-_, _≤_}
 use lib.Dec.{ltb, eqb}
 use lib.ListN.{length, take, drop}
 use Rattle.scan.specs.Scan.{pick, inClass, spanTo, trimStart, trimEnd}
@@ -61,3 +62,15 @@ clipGround (Bad r) = numberOf r
 abbrev pub clipPlace : Checked → ℕ
 clipPlace Good = 0
 clipPlace (Bad r) = placeOf r
+
+-- a clip argument's parts: what a definition names, its places in order
+pub record ClipIn (s : List ℕ) (d r : Clip) : Type 0 where
+  pub is : r ≡ d
+  pub order : r .from ≤ r .to
+  pub high : r .to ≤ length s
+
+-- what `split_clip_arg` says of its answer: the part of the text that is handed back, the scale, and ground 1 or 2
+pub record Splits (s part : List ℕ) (scale : ℕ) (c : Checked) : Type 0 where
+  pub rest : part ≡ restOf s (clipOf s)
+  pub size : scale ≡ clipOf s .scale
+  pub ground : c ≡ textGround s

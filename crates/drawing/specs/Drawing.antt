@@ -160,12 +160,16 @@ gives pen path = record { pen = pen; path = path }
 abbrev pub behind : Gives → List Token → Turn
 behind g rest = turned (g .pen) (g .path) rest
 
+-- a span between b and c
+abbrev pub spanGives : Point → Point → Point → Gives
+spanGives b c p = gives (penOf (spanEnd b c p) true (Spline (Span c p))) (spanOf b c p ∷ [])
+
 -- a spline with one control point more: from the fourth on each draws a span, the first of them behind a line to its start
 abbrev pub splinePoint : Point → Bool → Ctrl → Point → Gives
 splinePoint cur opened (One a) p = gives (penOf cur opened (Spline (Two a p))) []
 splinePoint cur opened (Two a b) p = gives (penOf cur opened (Spline (Three a b p))) []
 splinePoint cur opened (Three a b c) p = gives (penOf (spanEnd b c p) true (Spline (Span c p))) (lineTo (spanStart a b c) ∷ spanOf b c p ∷ [])
-splinePoint cur opened (Span b c) p = gives (penOf (spanEnd b c p) true (Spline (Span c p))) (spanOf b c p ∷ [])
+splinePoint cur opened (Span b c) p = spanGives b c p
 
 abbrev pub byMode : Mode → Pen → Point → Gives
 byMode Idle pen p = gives pen []
@@ -286,6 +290,9 @@ draw k ts = walk k (length ts) start ts
 pub record Emits (t : List ℕ) (n : ℕ) (cs : List Record) (m : ℕ) (u : List ℕ) : Type 0 where
   pub count : m ≡ n + length cs
   pub path : u ≡ take (min (width * n) (length t)) t ++ laid (drop (min (width * n) (length t)) t) cs
+
+abbrev pub standAt : Point → Bool → Mode → ℕ → ℕ → Stand
+standAt cur opened mode n next = record { pen = penOf cur opened mode; n = n; next = next }
 
 abbrev pub read1 : List ℕ → OnePoint → Read1
 read1 s NoPoint = none1

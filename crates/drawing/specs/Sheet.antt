@@ -1,10 +1,8 @@
 -- Worked examples, by computation: a drawing and its commands, or its refusal.
 use mathlib.Core.Path.{_≡_, refl}
 use mathlib.Core.List.{List, [], _∷_, map}
-use mathlib.Core.Bool.{Bool}
 use Prim.Native.Nat.{ℕ}
 use lib.Ieee.{round, toBits, ofInt, add, mul, div, sum}
-use lib.ListN.{length}
 use Prim.Native.Char.{code}
 use Prim.Native.String.{String}
 use Prim.Native.String as String
@@ -12,7 +10,7 @@ use Rattle.scan.specs.Scan.{span, skip, skipBack, blankAt, blankBefore}
 use Rattle.numeral.specs.Numeral.{value, wholeNumber, splitAt, exponentAt, floatOf, f32Of}
 use Rattle.tag.specs.declared.Record.{Record}
 use Rattle.tag.specs.Table.{rec}
-use Rattle.refusal.specs.declared.Refusal.the-variants.{TextTooLong, NotAscii, NumeralTooLong, ScaleTooLarge, NoRoom}
+use Rattle.refusal.specs.declared.Refusal.the-variants.{NotAscii, NumeralTooLong, ScaleTooLarge, NoRoom}
 use Rattle.drawing.specs.declared.Drawing.{Drawing}
 use Rattle.drawing.specs.declared.Drawing.the-variants.{Drawn, Refused}
 use Rattle.refusal.specs.declared.Checked.the-variants.{Good, Bad}

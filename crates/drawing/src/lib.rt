@@ -1,14 +1,13 @@
 // Drawings and clip arguments: the path that a drawing's text describes.
 ghost use mathlib.Core.Path.{_≡_};
 ghost use mathlib.Core.List.{[], _∷_};
-ghost use mathlib.Core.Bool.{true, false};
-ghost use Prim.Native.Nat.{_+_, _-_, _*_, _^_, _≤_, _<_, min};
+ghost use mathlib.Core.Bool.{false};
+ghost use Prim.Native.Nat.{_+_, _-_, _≤_, _<_, min};
 ghost use lib.ListN.{length};
 ghost use Rattle.scan.specs.Scan.{pick};
-ghost use Rattle.drawing.specs.Tokens.{oneLetter, lower as lowerOf, spells as spellsAt, special as specialAt, tokenEnd, tokenOf, Follows, from as tokensFrom, untilLetter, Skips};
-ghost use Rattle.drawing.specs.Drawing.{bez as bezOf, spanStart, spanOf, spanEnd, moveTo, lineTo, cubicTo, closed, scaleOf, commandOf, Emits, ReadsPoint, ReadsThree, Stroked, splinePoint, onPoint, settled as settledPen, Turns, continues as continuesAt, letterTurn, bareTurn, turnOf, curve, pointed, command as commandTurn, movesTo, draw as drawOf};
-ghost use Rattle.numeral.specs.Numeral.{value as valueOf, wholeNumber};
-ghost use Rattle.drawing.specs.Clip.{tooLarge, atLeastOne, clipParts, clipOf};
+ghost use Rattle.drawing.specs.Tokens.{oneLetter, lower as lowerOf, spells as spellsAt, special as specialAt, tokenEnd, tokenOf, Follows, from as tokensFrom, Skips};
+ghost use Rattle.drawing.specs.Drawing.{bez as bezOf, spanOf, moveTo, lineTo, cubicTo, closed, scaleOf, commandOf, Emits, ReadsPoint, ReadsThree, Stroked, spanGives, splinePoint, standAt, onPoint, settled as settledPen, Turns, continues as continuesAt, letterTurn, bareTurn, turnOf, curve, pointed, command as commandTurn, movesTo, draw as drawOf};
+ghost use Rattle.drawing.specs.Clip.{atLeastOne, clipParts, clipOf, restOf, ClipIn, Splits};
 ghost use Rattle.drawing.specs.Answer.{tokensGround, ground, Answered};
 
 // A token: a single ASCII letter, a number, a numeral that is refused with the place of its first byte, or anything else.
@@ -409,6 +408,24 @@ fn span_to(b: Point, c: Point, d: Point, n: usize, path: &mut [u32]) -> usize
     cubic_to(p, q, r, n, path)
 }
 
+// A spline's next span, between b and c.
+fn spline_span(b: Point, c: Point, p: Point, n: usize, path: &mut [u32]) -> Stroke
+    requires { ⌜ n < 65536 ⌝ }
+    ensures { λ r. ⌜ Stroked (now (path .entry)) n (spanGives b c p) r (now (path .exit)) ⌝ }
+{
+    let m = span_to(b, c, p, n, path);
+    let cur = bez(b, 1.0, c, 4.0, p, 1.0);
+    let mode = Mode::Spline(Ctrl::Span(c, p));
+    Stroke {
+        pen: Pen {
+            cur,
+            opened: true,
+            mode,
+        },
+        n: m,
+    }
+}
+
 // One control point more.
 fn spline_point(
     cur: Point,
@@ -422,47 +439,25 @@ fn spline_point(
     ensures { λ r. ⌜ Stroked (now (path .entry)) n (splinePoint cur opened ctrl p) r (now (path .exit)) ⌝ }
 {
     match ctrl {
-        Ctrl::One(a) => Stroke {
-            pen: Pen {
-                cur,
-                opened,
-                mode: Mode::Spline(Ctrl::Two(a, p)),
-            },
-            n,
-        },
-        Ctrl::Two(a, b) => Stroke {
-            pen: Pen {
-                cur,
-                opened,
-                mode: Mode::Spline(Ctrl::Three(a, b, p)),
-            },
-            n,
-        },
+        Ctrl::One(a) => {
+            let mode = Mode::Spline(Ctrl::Two(a, p));
+            Stroke {
+                pen: Pen { cur, opened, mode },
+                n,
+            }
+        }
+        Ctrl::Two(a, b) => {
+            let mode = Mode::Spline(Ctrl::Three(a, b, p));
+            Stroke {
+                pen: Pen { cur, opened, mode },
+                n,
+            }
+        }
         Ctrl::Three(a, b, c) => {
             let m = line_to(bez(a, 1.0, b, 4.0, c, 1.0), n, path);
-            let k = span_to(b, c, p, m, path);
-            let end = bez(b, 1.0, c, 4.0, p, 1.0);
-            Stroke {
-                pen: Pen {
-                    cur: end,
-                    opened: true,
-                    mode: Mode::Spline(Ctrl::Span(c, p)),
-                },
-                n: k,
-            }
+            spline_span(b, c, p, m, path)
         }
-        Ctrl::Span(b, c) => {
-            let k = span_to(b, c, p, n, path);
-            let end = bez(b, 1.0, c, 4.0, p, 1.0);
-            Stroke {
-                pen: Pen {
-                    cur: end,
-                    opened: true,
-                    mode: Mode::Spline(Ctrl::Span(c, p)),
-                },
-                n: k,
-            }
-        }
+        Ctrl::Span(b, c) => spline_span(b, c, p, n, path),
     }
 }
 
@@ -580,6 +575,17 @@ fn moves_to(
     }
 }
 
+// Where a drawing stands, from its parts.
+fn stand_at(cur: Point, opened: bool, mode: Mode, n: usize, next: usize) -> Stand
+    ensures { λ r. ⌜ r ≡ standAt cur opened mode n next ⌝ }
+{
+    Stand {
+        pen: Pen { cur, opened, mode },
+        n,
+        next,
+    }
+}
+
 // What a command does; its tokens begin at k.
 fn command_turn(
     text: &[u8],
@@ -598,45 +604,10 @@ fn command_turn(
     match c {
         Command::Move => moves_to(text, true, k, scale, pen, n, path),
         Command::MoveOpen => moves_to(text, false, k, scale, pen, n, path),
-        Command::Line => Stand {
-            pen: Pen {
-                cur,
-                opened,
-                mode: Mode::Lines,
-            },
-            n,
-            next: k,
-        },
-        Command::Cubic => Stand {
-            pen: Pen {
-                cur,
-                opened,
-                mode: Mode::Cubics,
-            },
-            n,
-            next: k,
-        },
-        Command::Basis => Stand {
-            pen: Pen {
-                cur,
-                opened,
-                mode: Mode::Spline(Ctrl::One(cur)),
-            },
-            n,
-            next: k,
-        },
-        Command::Close => {
-            let m = close(n, path);
-            Stand {
-                pen: Pen {
-                    cur,
-                    opened: false,
-                    mode: Mode::Idle,
-                },
-                n: m,
-                next: k,
-            }
-        }
+        Command::Line => stand_at(cur, opened, Mode::Lines, n, k),
+        Command::Cubic => stand_at(cur, opened, Mode::Cubics, n, k),
+        Command::Basis => stand_at(cur, opened, Mode::Spline(Ctrl::One(cur)), n, k),
+        Command::Close => stand_at(cur, false, Mode::Idle, close(n, path), k),
         Command::Unknown => Stand {
             pen,
             n,
@@ -872,45 +843,6 @@ pub struct Clip {
     pub to: usize,
 }
 
-fn capped(n: u64) -> u64
-    ensures { λ r. ⌜ r ≡ min tooLarge n ⌝ }
-{
-    if n <= 4294967296 { n } else { 4294967296 }
-}
-
-fn wide(b: u8) -> u64
-    ensures { λ r. ⌜ r ≡ b ⌝ }
-{
-    b as u64
-}
-
-// The number that the digits between two places write, at most 2^32.
-fn digits(text: &[u8], from: usize, to: usize) -> u64
-    requires { ⌜ (from ≤ to) × (to ≤ length (now text)) ⌝ }
-    ensures { λ r. ⌜ r ≡ min tooLarge (valueOf 10 (now (text .entry)) (to - from) from 0) ⌝ }
-{
-    let mut i = from;
-    let mut a: u64 = 0;
-    while i < to {
-        a = capped(a * 10 + wide(scan::digit_of(text[i])));
-        i += 1;
-    }
-    a
-}
-
-// The whole number that fills the text between two places, at most 2^32; 2^32 where there is none.
-fn clip_number(text: &[u8], from: usize, to: usize) -> u64
-    requires { ⌜ (from ≤ to) × (to ≤ length (now text)) ⌝ }
-    ensures { λ r. ⌜ r ≡ min tooLarge (wholeNumber 10 (now (text .entry)) from to) ⌝ }
-{
-    if from < to {
-        if scan::span(text, scan::Class::Digit(10), from, to) == to {
-            return digits(text, from, to);
-        }
-    }
-    4294967296
-}
-
 fn at_least_one(n: u32) -> u32
     ensures { λ r. ⌜ r ≡ atLeastOne n ⌝ }
 {
@@ -919,12 +851,12 @@ fn at_least_one(n: u32) -> u32
 
 // The scale before the first comma and the rest behind it, or 1 and all; leading blanks dropped.
 fn clip_parts(text: &[u8]) -> Clip
-    ensures { λ r. ⌜ r ≡ clipParts (now (text .entry)) ⌝ }
+    ensures { λ r. ⌜ ClipIn (now (text .entry)) (clipParts (now (text .entry))) r ⌝ }
 {
     let a = scan::trim_start(text, 0, text.len());
     let comma = scan::span(text, scan::Class::Not(44), a, text.len());
     if comma < text.len() {
-        let n = clip_number(text, a, scan::trim_end(text, a, comma));
+        let n = numeral::whole_number(text, 10, a, scan::trim_end(text, a, comma));
         if n < 4294967296 {
             let rest = scan::trim_start(text, comma + 1, text.len());
             return Clip {
@@ -945,7 +877,7 @@ fn clip_parts(text: &[u8]) -> Clip
 
 // 01, src/drawing.rs: a clip argument by places; beside a refusal scale 1 and an empty part.
 pub fn clip_at(text: &[u8]) -> Clip
-    ensures { λ r. ⌜ r ≡ clipOf (now (text .entry)) ⌝ }
+    ensures { λ r. ⌜ ClipIn (now (text .entry)) (clipOf (now (text .entry))) r ⌝ }
 {
     let checked = refusal::check_text(text);
     match checked {
@@ -956,5 +888,41 @@ pub fn clip_at(text: &[u8]) -> Clip
             to: 0,
         },
         refusal::Checked::Good => clip_parts(text),
+    }
+}
+
+// The scale of a clip argument.
+pub fn clip_scale(text: &[u8]) -> u32
+    ensures { λ r. ⌜ r ≡ clipOf (now (text .entry)) .scale ⌝ }
+{
+    let c = clip_at(text);
+    c.scale
+}
+
+// The rest of a clip argument, a part of the text given.
+pub fn clip_rest(text: &[u8]) -> &[u8]
+    ensures { λ r. ⌜ now r ≡ restOf (now (text .entry)) (clipOf (now (text .entry))) ⌝ }
+{
+    let c = clip_at(text);
+    let from = c.from;
+    let to = c.to;
+    &text[from..to]
+}
+
+// A clip argument: the rest of the caller's own slice, the scale, and the ground that stands against it.
+pub struct ClipArg<'a> {
+    pub rest: &'a [u8],
+    pub scale: u32,
+    pub checked: refusal::Checked,
+}
+
+// 01, src/drawing.rs: "`split_clip_arg` gives the scale (at least 1) and hands back the rest of the argument itself".
+pub fn split_clip_arg<'a>(text: &'a [u8]) -> ClipArg<'a>
+    ensures { λ r. ⌜ Splits (now (text .entry)) (now (r .rest)) (r .scale) (r .checked) ⌝ }
+{
+    ClipArg {
+        rest: clip_rest(text),
+        scale: clip_scale(text),
+        checked: refusal::check_text(text),
     }
 }

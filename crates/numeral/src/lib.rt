@@ -50,7 +50,7 @@ fn wide(b: u8) -> u64
 }
 
 // The whole number that fills the text between two places; 10^18 where it is larger or there is none.
-fn whole_number(text: &[u8], radix: u8, from: usize, to: usize) -> u64
+pub fn whole_number(text: &[u8], radix: u8, from: usize, to: usize) -> u64
     requires { ⌜ (from ≤ to) × (to ≤ length (now text)) × (0 < radix) × (radix ≤ 16) ⌝ }
     ensures { λ r. ⌜ r ≡ min most (wholeNumber radix (now (text .entry)) from to) ⌝ }
 {

@@ -1,8 +1,6 @@
-use borrow.Author.Tests.{le-leb, lt-leb, eq-eqb, ne-eqb, lt-ltb, le-ltb, not-true, not-false}
+use borrow.Author.Tests.{eq-eqb, ne-eqb}
 use Rattle.drawing.proofs.at_least_one.Statement.{statement}
 use Rattle.drawing.proofs.at_least_one.Tie as tie
-use Rattle.drawing.proofs.at_least_one.Reads as reads
-use Rattle.drawing.proofs.at_least_one.Lts as lts
 
 returns : tie.Need-returns
 returns c = rw (eq-eqb _ 0 (c .if1 .taken))

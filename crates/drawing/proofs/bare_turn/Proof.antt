@@ -2,10 +2,6 @@ use Rattle.drawing.proofs.Turning.{turn-none, bare-by}
 use borrow.Author.Needs.{needs}
 use Rattle.drawing.proofs.bare_turn.Statement.{statement}
 use Rattle.drawing.proofs.bare_turn.Tie as tie
-use Rattle.drawing.proofs.bare_turn.Reads as reads
-use Rattle.drawing.proofs.bare_turn.Lts as lts
-use Rattle.drawing.proofs.curve_turn.Reads as curve-turn-reads
-use Rattle.drawing.proofs.point_turn.Reads as point-turn-reads
 
 enum-told : tie.Need-enum-told
 enum-told c = search needs

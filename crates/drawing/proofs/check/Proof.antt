@@ -2,10 +2,6 @@ use Rattle.drawing.proofs.Answering.{ground-1, ground-3, ground-7, grou
 use borrow.Author.Needs.{needs}
 use Rattle.drawing.proofs.check.Statement.{statement}
 use Rattle.drawing.proofs.check.Tie as tie
-use Rattle.drawing.proofs.check.Reads as reads
-use Rattle.drawing.proofs.check.Lts as lts
-use Rattle.refusal.proofs.check_text.Reads as check-text-reads
-use Rattle.drawing.proofs.check_tokens.Reads as check-tokens-reads
 
 check-text-requires : tie.Need-check-text-requires
 check-text-requires c κs = search needs

@@ -5,12 +5,9 @@ use native.Mathlib.Omega.{arith}
 use lib.ListN.{length}
 use Prim.Native.Nat.{_≤_, _-_}
 use borrow.Author.Needs.{needs}
-use mathlib.Core.Path.{_≡_, refl, sym, ap, _∙_}
+use mathlib.Core.Path.{_≡_, sym, _∙_}
 use Rattle.drawing.proofs.check_tokens.Statement.{statement}
 use Rattle.drawing.proofs.check_tokens.Tie as tie
-use Rattle.drawing.proofs.check_tokens.Reads as reads
-use Rattle.drawing.proofs.check_tokens.Lts as lts
-use Rattle.drawing.proofs.next_token.Reads as next-token-reads
 
 abbrev Inv-loop : tie.InvT-loop
 Inv-loop text i₀ i = (i ≤ length text) × (tokensGround (from text 0) ≡ tokensGround (from text i))

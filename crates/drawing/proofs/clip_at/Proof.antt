@@ -1,11 +1,7 @@
-use mathlib.Core.Path.{_≡_, refl, sym, ap, _∙_}
+use mathlib.Core.Path.{sym, _∙_}
 use borrow.Author.Needs.{needs}
 use Rattle.drawing.proofs.clip_at.Statement.{statement}
 use Rattle.drawing.proofs.clip_at.Tie as tie
-use Rattle.drawing.proofs.clip_at.Reads as reads
-use Rattle.drawing.proofs.clip_at.Lts as lts
-use Rattle.refusal.proofs.check_text.Reads as check-text-reads
-use Rattle.drawing.proofs.clip_parts.Reads as clip-parts-reads
 
 check-text-requires : tie.Need-check-text-requires
 check-text-requires c κs = search needs
@@ -20,10 +16,10 @@ clip-parts-requires : tie.Need-clip-parts-requires
 clip-parts-requires c κs = search needs
 
 returns : tie.Need-returns
-returns c = rw (sym (c .before .before .before .check-text .ensures) ∙ c .before .checked .given .1)
+returns c = record { is = rw (sym (c .before .before .before .check-text .ensures) ∙ c .before .checked .given .1); order = search needs; high = search needs }
 
 returns-2 : tie.Need-returns-2
-returns-2 c = rw (sym (c .before .before .before .check-text .ensures) ∙ c .before .enum-told .given .1) (c .clip-parts .ensures)
+returns-2 c = let e = c .clip-parts .ensures in record { is = rw (sym (c .before .before .before .check-text .ensures) ∙ c .before .enum-told .given .1) (e .is); order = e .order; high = e .high }
 
 pub clip-at-spec : {M : Type 1} → statement M
 clip-at-spec =

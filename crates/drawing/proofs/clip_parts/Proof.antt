@@ -2,13 +2,6 @@ use Rattle.drawing.proofs.Clipping.{clip-some, clip-large, clip-none}
 use borrow.Author.Needs.{needs}
 use Rattle.drawing.proofs.clip_parts.Statement.{statement}
 use Rattle.drawing.proofs.clip_parts.Tie as tie
-use Rattle.drawing.proofs.clip_parts.Reads as reads
-use Rattle.drawing.proofs.clip_parts.Lts as lts
-use Rattle.drawing.proofs.at_least_one.Reads as at-least-one-reads
-use Rattle.drawing.proofs.clip_number.Reads as clip-number-reads
-use Rattle.scan.proofs.span.Reads as span-reads
-use Rattle.scan.proofs.trim_end.Reads as trim-end-reads
-use Rattle.scan.proofs.trim_start.Reads as trim-start-reads
 
 trim-start-requires : tie.Need-trim-start-requires
 trim-start-requires c κs = search needs
@@ -19,8 +12,8 @@ span-requires c κs = search needs
 trim-end-requires : tie.Need-trim-end-requires
 trim-end-requires c κs = search needs
 
-clip-number-requires : tie.Need-clip-number-requires
-clip-number-requires c κs = search needs
+whole-number-requires : tie.Need-whole-number-requires
+whole-number-requires c κs = search needs
 
 add-trim-start : tie.Need-add-trim-start
 add-trim-start c = search needs
@@ -35,13 +28,13 @@ at-least-one-requires : tie.Need-at-least-one-requires
 at-least-one-requires c κs = search needs
 
 returns : tie.Need-returns
-returns c = clip-some _ (c .before .before .before .before .before .before .before .trim-start .ensures .is) (c .before .before .before .before .before .before .span .ensures .is) (c .before .before .before .before .trim-end .ensures .is) (c .before .before .before .clip-number .ensures) (c .before .before .before .before .before .if1 .taken) (c .before .before .if2 .taken) (c .before .trim-start2 .ensures .is) (c .at-least-one .ensures)
+returns c = record { is = clip-some _ (c .before .before .before .before .before .before .before .trim-start .ensures .is) (c .before .before .before .before .before .before .span .ensures .is) (c .before .before .before .before .trim-end .ensures .is) (c .before .before .before .whole-number .ensures) (c .before .before .before .before .before .if1 .taken) (c .before .before .if2 .taken) (c .before .trim-start2 .ensures .is) (c .at-least-one .ensures); order = search needs; high = search needs }
 
 returns-2 : tie.Need-returns-2
-returns-2 c = clip-large _ (c .before .before .before .before .before .trim-start .ensures .is) (c .before .before .before .before .span .ensures .is) (c .before .before .trim-end .ensures .is) (c .before .clip-number .ensures) (c .before .before .before .if1 .taken) (c .if2 .left)
+returns-2 c = record { is = clip-large _ (c .before .before .before .before .before .trim-start .ensures .is) (c .before .before .before .before .span .ensures .is) (c .before .before .trim-end .ensures .is) (c .before .whole-number .ensures) (c .before .before .before .if1 .taken) (c .if2 .left); order = search needs; high = search needs }
 
 returns-3 : tie.Need-returns-3
-returns-3 c = clip-none _ (c .before .before .trim-start .ensures .is) (c .before .span .ensures .is) (c .if1 .left)
+returns-3 c = record { is = clip-none _ (c .before .before .trim-start .ensures .is) (c .before .span .ensures .is) (c .if1 .left); order = search needs; high = search needs }
 
 pub clip-parts-spec : {M : Type 1} → statement M
 clip-parts-spec =
@@ -50,7 +43,7 @@ clip-parts-spec =
     trim-start-requires
     span-requires
     trim-end-requires
-    clip-number-requires
+    whole-number-requires
     add-trim-start
     trim-start-requires-2
     cast-at-least-one

@@ -1,12 +1,9 @@
 use Rattle.drawing.specs.Drawing.{commandOf}
-use borrow.Author.Tests.{le-leb, lt-leb, eq-eqb, ne-eqb, lt-ltb, le-ltb, not-true, not-false}
-use mathlib.Core.Path.{_≡_, refl, sym, ap, _∙_}
+use borrow.Author.Tests.{ne-eqb}
+use mathlib.Core.Path.{sym, _∙_}
 use borrow.Author.Needs.{needs}
 use Rattle.drawing.proofs.command_of.Statement.{statement}
 use Rattle.drawing.proofs.command_of.Tie as tie
-use Rattle.drawing.proofs.command_of.Reads as reads
-use Rattle.drawing.proofs.command_of.Lts as lts
-use Rattle.drawing.proofs.lower.Reads as lower-reads
 
 lower-requires : tie.Need-lower-requires
 lower-requires c κs = search needs

@@ -1,8 +1,6 @@
 use borrow.Author.Needs.{needs}
 use Rattle.drawing.proofs.continues.Statement.{statement}
 use Rattle.drawing.proofs.continues.Tie as tie
-use Rattle.drawing.proofs.continues.Reads as reads
-use Rattle.drawing.proofs.continues.Lts as lts
 
 enum-told : tie.Need-enum-told
 enum-told c = search needs

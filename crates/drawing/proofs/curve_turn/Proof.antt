@@ -2,10 +2,6 @@ use Rattle.drawing.proofs.Turning.{curve-none, curve-some}
 use borrow.Author.Needs.{needs}
 use Rattle.drawing.proofs.curve_turn.Statement.{statement}
 use Rattle.drawing.proofs.curve_turn.Tie as tie
-use Rattle.drawing.proofs.curve_turn.Reads as reads
-use Rattle.drawing.proofs.curve_turn.Lts as lts
-use Rattle.drawing.proofs.cubic_to.Reads as cubic-to-reads
-use Rattle.drawing.proofs.read_three_points.Reads as read-three-points-reads
 
 read-three-points-requires : tie.Need-read-three-points-requires
 read-three-points-requires c κs = search needs

@@ -10,13 +10,9 @@ use mathlib.Core.List.{List}
 use Prim.Native.Nat.{ℕ, _≤_, _-_, _*_}
 use native.Mathlib.Omega.{arith}
 use borrow.Author.Needs.{needs}
-use mathlib.Core.Path.{_≡_, refl, sym, ap, _∙_}
+use mathlib.Core.Path.{_≡_, refl, _∙_}
 use Rattle.drawing.proofs.draw.Statement.{statement}
 use Rattle.drawing.proofs.draw.Tie as tie
-use Rattle.drawing.proofs.draw.Reads as reads
-use Rattle.drawing.proofs.draw.Lts as lts
-use Rattle.drawing.proofs.next_token.Reads as next-token-reads
-use Rattle.drawing.proofs.turn.Reads as turn-reads
 
 abbrev Inv-loop : tie.InvT-loop
 Inv-loop text scale path₀ at₀ path at = (at .next ≤ length text) × (at .n ≤ 2 * at .next) × (length path ≡ length path₀) × ((v : List ℕ) (m : ℕ) → Emits path (at .n) (left scale (at .pen) (from text (at .next))) m v → Emits path₀ 0 (drawOf scale (from text 0)) m v)

@@ -2,10 +2,6 @@ use Rattle.drawing.proofs.Emitting.{emits-one}
 use borrow.Author.Needs.{needs}
 use Rattle.drawing.proofs.emit.Statement.{statement}
 use Rattle.drawing.proofs.emit.Tie as tie
-use Rattle.drawing.proofs.emit.Reads as reads
-use Rattle.drawing.proofs.emit.Lts as lts
-use Rattle.drawing.proofs.least.Reads as least-reads
-use Rattle.tag.proofs.put.Reads as put-reads
 
 mul-least : tie.Need-mul-least
 mul-least c = search needs

@@ -1,16 +1,10 @@
 use Rattle.drawing.proofs.Answering.{letter-turns}
 use Rattle.drawing.proofs.Turning.{turn-none}
 use Rattle.drawing.specs.Drawing.{letterTurn}
-use mathlib.Core.Path.{_≡_, refl, sym, ap, _∙_}
+use mathlib.Core.Path.{sym, _∙_}
 use borrow.Author.Needs.{needs}
 use Rattle.drawing.proofs.letter_turn.Statement.{statement}
 use Rattle.drawing.proofs.letter_turn.Tie as tie
-use Rattle.drawing.proofs.letter_turn.Reads as reads
-use Rattle.drawing.proofs.letter_turn.Lts as lts
-use Rattle.drawing.proofs.command_of.Reads as command-of-reads
-use Rattle.drawing.proofs.command_turn.Reads as command-turn-reads
-use Rattle.drawing.proofs.continues.Reads as continues-reads
-use Rattle.drawing.proofs.settled.Reads as settled-reads
 
 continues-requires : tie.Need-continues-requires
 continues-requires c κs = search needs

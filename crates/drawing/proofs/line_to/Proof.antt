@@ -1,10 +1,6 @@
 use borrow.Author.Needs.{needs}
 use Rattle.drawing.proofs.line_to.Statement.{statement}
 use Rattle.drawing.proofs.line_to.Tie as tie
-use Rattle.drawing.proofs.line_to.Reads as reads
-use Rattle.drawing.proofs.line_to.Lts as lts
-use Rattle.drawing.proofs.emit.Reads as emit-reads
-use Rattle.float.proofs.word_of_f32.Reads as word-of-f32-reads
 
 word-of-f32-requires : tie.Need-word-of-f32-requires
 word-of-f32-requires c κs = search needs

@@ -1,9 +1,7 @@
-use borrow.Author.Tests.{le-leb, lt-leb, eq-eqb, ne-eqb, lt-ltb, le-ltb, not-true, not-false}
+use borrow.Author.Tests.{le-leb, lt-leb}
 use borrow.Author.Needs.{needs}
 use Rattle.drawing.proofs.lower.Statement.{statement}
 use Rattle.drawing.proofs.lower.Tie as tie
-use Rattle.drawing.proofs.lower.Reads as reads
-use Rattle.drawing.proofs.lower.Lts as lts
 
 returns : tie.Need-returns
 returns c = simp (lt-leb 65 _ (c .if1 .taken))

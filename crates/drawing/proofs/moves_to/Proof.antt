@@ -1,14 +1,8 @@
 use Rattle.drawing.proofs.Turning.{moves-none, moves-shut, moves-plain}
-use mathlib.Core.Path.{_≡_, refl, sym, ap, _∙_}
+use mathlib.Core.Path.{sym, _∙_}
 use borrow.Author.Needs.{needs}
 use Rattle.drawing.proofs.moves_to.Statement.{statement}
 use Rattle.drawing.proofs.moves_to.Tie as tie
-use Rattle.drawing.proofs.moves_to.Reads as reads
-use Rattle.drawing.proofs.moves_to.Lts as lts
-use Rattle.drawing.proofs.both.Reads as both-reads
-use Rattle.drawing.proofs.close.Reads as close-reads
-use Rattle.drawing.proofs.move_to.Reads as move-to-reads
-use Rattle.drawing.proofs.read_point.Reads as read-point-reads
 
 read-point-requires : tie.Need-read-point-requires
 read-point-requires c κs = search needs

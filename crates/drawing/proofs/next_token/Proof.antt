@@ -2,11 +2,6 @@ use Rattle.drawing.proofs.Words.{from-end, from-more}
 use borrow.Author.Needs.{needs}
 use Rattle.drawing.proofs.next_token.Statement.{statement}
 use Rattle.drawing.proofs.next_token.Tie as tie
-use Rattle.drawing.proofs.next_token.Reads as reads
-use Rattle.drawing.proofs.next_token.Lts as lts
-use Rattle.drawing.proofs.token_end.Reads as token-end-reads
-use Rattle.drawing.proofs.token_of.Reads as token-of-reads
-use Rattle.scan.proofs.trim_start.Reads as trim-start-reads
 
 trim-start-requires : tie.Need-trim-start-requires
 trim-start-requires c κs = search needs

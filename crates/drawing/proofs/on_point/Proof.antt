@@ -1,13 +1,9 @@
 use native.Mathlib.Omega.{arith}
-use Rattle.drawing.proofs.Emitting.{emits-none, emits-join}
-use mathlib.Core.Path.{_≡_, refl, sym, ap, _∙_}
+use Rattle.drawing.proofs.Emitting.{emits-none}
+use mathlib.Core.Path.{refl}
 use borrow.Author.Needs.{needs}
 use Rattle.drawing.proofs.on_point.Statement.{statement}
 use Rattle.drawing.proofs.on_point.Tie as tie
-use Rattle.drawing.proofs.on_point.Reads as reads
-use Rattle.drawing.proofs.on_point.Lts as lts
-use Rattle.drawing.proofs.line_to.Reads as line-to-reads
-use Rattle.drawing.proofs.spline_point.Reads as spline-point-reads
 
 enum-told : tie.Need-enum-told
 enum-told c = search needs

@@ -1,10 +1,6 @@
 use borrow.Author.Needs.{needs}
 use Rattle.drawing.proofs.one_letter.Statement.{statement}
 use Rattle.drawing.proofs.one_letter.Tie as tie
-use Rattle.drawing.proofs.one_letter.Reads as reads
-use Rattle.drawing.proofs.one_letter.Lts as lts
-use Rattle.drawing.proofs.both.Reads as both-reads
-use Rattle.scan.proofs.has.Reads as has-reads
 
 add-both : tie.Need-add-both
 add-both c = search needs

@@ -2,12 +2,6 @@ use Rattle.drawing.proofs.Answering.{dry, small-exponent, short-text, a
 use borrow.Author.Needs.{needs}
 use Rattle.drawing.proofs.parse_drawing.Statement.{statement}
 use Rattle.drawing.proofs.parse_drawing.Tie as tie
-use Rattle.drawing.proofs.parse_drawing.Reads as reads
-use Rattle.drawing.proofs.parse_drawing.Lts as lts
-use Rattle.drawing.proofs.check.Reads as check-reads
-use Rattle.drawing.proofs.draw.Reads as draw-reads
-use Rattle.drawing.proofs.least.Reads as least-reads
-use Rattle.drawing.proofs.scale_of.Reads as scale-of-reads
 
 check-requires : tie.Need-check-requires
 check-requires c κs = search needs

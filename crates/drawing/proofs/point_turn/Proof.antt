@@ -2,11 +2,6 @@ use Rattle.drawing.proofs.Turning.{pointed-none, pointed-some}
 use borrow.Author.Needs.{needs}
 use Rattle.drawing.proofs.point_turn.Statement.{statement}
 use Rattle.drawing.proofs.point_turn.Tie as tie
-use Rattle.drawing.proofs.point_turn.Reads as reads
-use Rattle.drawing.proofs.point_turn.Lts as lts
-use Rattle.drawing.proofs.on_point.Reads as on-point-reads
-use Rattle.drawing.proofs.read_point.Reads as read-point-reads
-use Rattle.drawing.proofs.settled.Reads as settled-reads
 
 read-point-requires : tie.Need-read-point-requires
 read-point-requires c κs = search needs

@@ -3,9 +3,6 @@ use Rattle.drawing.proofs.Turning.{next-is, point-end, point-other, poi
 use borrow.Author.Needs.{needs}
 use Rattle.drawing.proofs.read_point.Statement.{statement}
 use Rattle.drawing.proofs.read_point.Tie as tie
-use Rattle.drawing.proofs.read_point.Reads as reads
-use Rattle.drawing.proofs.read_point.Lts as lts
-use Rattle.drawing.proofs.next_token.Reads as next-token-reads
 
 next-token-requires : tie.Need-next-token-requires
 next-token-requires c κs = search needs

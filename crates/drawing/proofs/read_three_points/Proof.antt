@@ -2,9 +2,6 @@ use Rattle.drawing.proofs.Turning.{point-is, three-first, three-second,
 use borrow.Author.Needs.{needs}
 use Rattle.drawing.proofs.read_three_points.Statement.{statement}
 use Rattle.drawing.proofs.read_three_points.Tie as tie
-use Rattle.drawing.proofs.read_three_points.Reads as reads
-use Rattle.drawing.proofs.read_three_points.Lts as lts
-use Rattle.drawing.proofs.read_point.Reads as read-point-reads
 
 read-point-requires : tie.Need-read-point-requires
 read-point-requires c κs = search needs

@@ -1,14 +1,10 @@
 use Rattle.drawing.proofs.Turning.{scale-some}
 use lib.Ieee.{ofBits}
 use Rattle.drawing.specs.Drawing.{scaleOf}
-use borrow.Author.Tests.{le-leb, lt-leb, eq-eqb, ne-eqb, lt-ltb, le-ltb, not-true, not-false}
-use mathlib.Core.Path.{_≡_, refl, sym, ap, _∙_}
+use borrow.Author.Tests.{eq-eqb}
 use borrow.Author.Needs.{needs}
 use Rattle.drawing.proofs.scale_of.Statement.{statement}
 use Rattle.drawing.proofs.scale_of.Tie as tie
-use Rattle.drawing.proofs.scale_of.Reads as reads
-use Rattle.drawing.proofs.scale_of.Lts as lts
-use Rattle.float.proofs.nearest_u32.Reads as nearest-u32-reads
 
 returns : tie.Need-returns
 unfolding scaleOf ofBits

@@ -1,8 +1,6 @@
 use borrow.Author.Needs.{needs}
 use Rattle.drawing.proofs.settled.Statement.{statement}
 use Rattle.drawing.proofs.settled.Tie as tie
-use Rattle.drawing.proofs.settled.Reads as reads
-use Rattle.drawing.proofs.settled.Lts as lts
 
 enum-told : tie.Need-enum-told
 enum-told c = search needs

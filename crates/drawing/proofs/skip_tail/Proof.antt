@@ -4,13 +4,9 @@ use native.Mathlib.Omega.{arith}
 use lib.ListN.{length}
 use Prim.Native.Nat.{_≤_, _-_}
 use borrow.Author.Needs.{needs}
-use mathlib.Core.Path.{_≡_, refl, sym, ap, _∙_}
+use mathlib.Core.Path.{_≡_, sym, _∙_}
 use Rattle.drawing.proofs.skip_tail.Statement.{statement}
 use Rattle.drawing.proofs.skip_tail.Tie as tie
-use Rattle.drawing.proofs.skip_tail.Reads as reads
-use Rattle.drawing.proofs.skip_tail.Lts as lts
-use Rattle.drawing.proofs.is_letter.Reads as is-letter-reads
-use Rattle.drawing.proofs.next_token.Reads as next-token-reads
 
 abbrev Inv-loop : tie.InvT-loop
 Inv-loop text i at₀ at = (i ≤ at) × (at ≤ length text) × (untilLetter (from text i) ≡ untilLetter (from text at))

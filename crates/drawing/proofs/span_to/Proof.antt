@@ -3,10 +3,6 @@ use lib.Ieee.{ofBits}
 use borrow.Author.Needs.{needs}
 use Rattle.drawing.proofs.span_to.Statement.{statement}
 use Rattle.drawing.proofs.span_to.Tie as tie
-use Rattle.drawing.proofs.span_to.Reads as reads
-use Rattle.drawing.proofs.span_to.Lts as lts
-use Rattle.drawing.proofs.bez.Reads as bez-reads
-use Rattle.drawing.proofs.cubic_to.Reads as cubic-to-reads
 
 bez-requires : tie.Need-bez-requires
 bez-requires c κs = search needs

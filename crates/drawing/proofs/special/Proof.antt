@@ -1,12 +1,8 @@
 use Rattle.drawing.specs.Tokens.{special}
-use mathlib.Core.Path.{_≡_, refl, sym, ap, _∙_}
+use mathlib.Core.Path.{sym, _∙_}
 use borrow.Author.Needs.{needs}
 use Rattle.drawing.proofs.special.Statement.{statement}
 use Rattle.drawing.proofs.special.Tie as tie
-use Rattle.drawing.proofs.special.Reads as reads
-use Rattle.drawing.proofs.special.Lts as lts
-use Rattle.drawing.proofs.spells.Reads as spells-reads
-use Rattle.scan.proofs.past.Reads as past-reads
 
 past-requires : tie.Need-past-requires
 past-requires c κs = search needs

@@ -3,12 +3,9 @@ use Rattle.drawing.specs.Tokens.{spells as spellsAt}
 use lib.ListN.{length, drop}
 use Prim.Native.Nat.{_≤_, _-_}
 use borrow.Author.Needs.{needs}
-use mathlib.Core.Path.{_≡_, refl, sym, ap, _∙_}
+use mathlib.Core.Path.{_≡_, sym, _∙_}
 use Rattle.drawing.proofs.spells.Statement.{statement}
 use Rattle.drawing.proofs.spells.Tie as tie
-use Rattle.drawing.proofs.spells.Reads as reads
-use Rattle.drawing.proofs.spells.Lts as lts
-use Rattle.drawing.proofs.lower.Reads as lower-reads
 
 abbrev Inv-loop : tie.InvT-loop
 Inv-loop text i e word j₀ at₀ j at = (i ≤ at) × (at ≤ e) × (j ≤ length word) × (spellsAt word text i e ≡ spellsAt (drop j word) text at e)

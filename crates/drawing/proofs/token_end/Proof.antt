@@ -3,12 +3,9 @@ use Rattle.drawing.specs.Tokens.{tokenEnd}
 use lib.ListN.{length}
 use Prim.Native.Nat.{_≤_, _-_}
 use borrow.Author.Needs.{needs}
-use mathlib.Core.Path.{_≡_, refl, sym, ap, _∙_}
+use mathlib.Core.Path.{_≡_, sym, _∙_}
 use Rattle.drawing.proofs.token_end.Statement.{statement}
 use Rattle.drawing.proofs.token_end.Tie as tie
-use Rattle.drawing.proofs.token_end.Reads as reads
-use Rattle.drawing.proofs.token_end.Lts as lts
-use Rattle.scan.proofs.blank_at.Reads as blank-at-reads
 
 abbrev Inv-loop : tie.InvT-loop
 Inv-loop text i k₀ k = (i ≤ k) × (k ≤ length text) × (tokenEnd text i ≡ tokenEnd text k)

@@ -1,15 +1,9 @@
 use Rattle.drawing.proofs.Words.{token-other, token-long, token-number}
 use Rattle.drawing.specs.Tokens.{tokenOf}
-use mathlib.Core.Path.{_≡_, refl, sym, ap, _∙_}
+use mathlib.Core.Path.{sym, _∙_}
 use borrow.Author.Needs.{needs}
 use Rattle.drawing.proofs.token_of.Statement.{statement}
 use Rattle.drawing.proofs.token_of.Tie as tie
-use Rattle.drawing.proofs.token_of.Reads as reads
-use Rattle.drawing.proofs.token_of.Lts as lts
-use Rattle.drawing.proofs.one_letter.Reads as one-letter-reads
-use Rattle.drawing.proofs.special.Reads as special-reads
-use Rattle.float.proofs.f32_of_word.Reads as f32-of-word-reads
-use Rattle.numeral.proofs.f32_at.Reads as f32-at-reads
 
 one-letter-requires : tie.Need-one-letter-requires
 one-letter-requires c κs = search needs

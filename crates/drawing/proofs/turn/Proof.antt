@@ -2,10 +2,6 @@ use Rattle.drawing.proofs.Answering.{lower-low}
 use borrow.Author.Needs.{needs}
 use Rattle.drawing.proofs.turn.Statement.{statement}
 use Rattle.drawing.proofs.turn.Tie as tie
-use Rattle.drawing.proofs.turn.Reads as reads
-use Rattle.drawing.proofs.turn.Lts as lts
-use Rattle.drawing.proofs.bare_turn.Reads as bare-turn-reads
-use Rattle.drawing.proofs.letter_turn.Reads as letter-turn-reads
 
 enum-known-t : tie.Need-enum-known-t
 enum-known-t c = search needs

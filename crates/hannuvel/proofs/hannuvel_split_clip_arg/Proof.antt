@@ -13,7 +13,7 @@ packed-clip-requires : tie.Need-packed-clip-requires
 packed-clip-requires c κs = search needs
 
 returns : tie.Need-returns
-returns c = rw (← c .before .clip-at .ensures) (c .packed-clip .ensures)
+returns c = rw (← c .before .clip-at .ensures .is) (c .packed-clip .ensures)
 
 pub hannuvel-split-clip-arg-spec : {M : Type 1} → statement M
 hannuvel-split-clip-arg-spec = tie.close (tie.spec clip-at-requires packed-clip-requires returns)
