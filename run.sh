@@ -1,15 +1,20 @@
 #!/usr/bin/env bash
 # Shows an override block in words: its tags and how many records of how many they need, or why it is
-# refused, with the place underlined. Proves and builds the program first, where that has not been done.
+# refused, with the place underlined; or draws a drawing as an SVG picture. Proves and builds the program
+# first, where that has not been done.
 set -euo pipefail
 
 usage() {
     cat <<'END'
 usage: ./run.sh [--raw] [TEXT]
+       ./run.sh --drawing EXPONENT TEXT
 
 TEXT is an override block, as '\fs20\t(0,1000,\fs40)'; - stands for standard input; without it an example is
 shown. Braces are ordinary bytes. With --raw blanks around the text and one { and one } are dropped first, as
 in ./run.sh --raw '{\k50}'.
+
+With --drawing TEXT is a drawing, as 'm 0 0 l 10 0 10 10 c', whose scale has the EXPONENT, a whole number from 0
+to 32; the picture goes to standard output, as in ./run.sh --drawing 1 'm 0 0 l 10 0 10 10 c' >picture.svg.
 END
 }
 stop() {
@@ -17,10 +22,23 @@ stop() {
     exit 2
 }
 
-raw=()
+program=show
+words=()
 while [ $# -gt 0 ]; do
     case $1 in
-    --raw) raw=(raw) ;;
+    --raw)
+        program=show
+        words=(raw)
+        ;;
+    --drawing)
+        [ $# -ge 3 ] || stop "--drawing asks for an exponent and a text"
+        case $2 in
+        '' | *[!0-9]*) stop "the exponent is a whole number, and this is $2" ;;
+        esac
+        program=draw
+        words=("$2")
+        shift
+        ;;
     -h | --help)
         usage
         exit 0
@@ -54,17 +72,17 @@ command -v rt >/dev/null || stop "rt is not on the PATH: the Rattle kit is missi
 # rt proves again only what has changed.
 log=$(mktemp)
 trap 'rm -f "$log"' EXIT
-[ -x target/bin/show ] || printf 'run.sh: proving and building, which takes minutes the first time\n' >&2
+[ -x "target/bin/$program" ] || printf 'run.sh: proving and building, which takes minutes the first time\n' >&2
 status=0
-rt check show >"$log" 2>&1 || status=$?
+rt check "$program" >"$log" 2>&1 || status=$?
 if [ "$status" -ne 0 ]; then
     tail -n 40 "$log" >&2
-    printf 'run.sh: rt check show ended with status %s\n' "$status" >&2
+    printf 'run.sh: rt check %s ended with status %s\n' "$program" "$status" >&2
     exit "$status"
 fi
 
 case $text in
--) target/bin/show ${raw[@]+"${raw[@]}"} ;;
-raw) target/bin/show ${raw[@]+"${raw[@]}"} < <(printf '%s' "$text") ;;
-*) target/bin/show ${raw[@]+"${raw[@]}"} "$text" ;;
+-) "target/bin/$program" ${words[@]+"${words[@]}"} ;;
+raw) "target/bin/$program" ${words[@]+"${words[@]}"} < <(printf '%s' "$text") ;;
+*) "target/bin/$program" ${words[@]+"${words[@]}"} "$text" ;;
 esac

@@ -4,15 +4,15 @@ ghost use Prim.Native.Nat.{_+_, _*_, _≤_};
 ghost use lib.ListN.{length};
 ghost use Rattle.scan.specs.Scan.{pick};
 ghost use Rattle.show.specs.Level.{holds as holdsAt, level as levelAt};
-use crate::line::byte;
-use crate::line::least;
-use crate::line::part;
-use crate::line::repeated;
-use crate::line::words;
-use crate::line::write;
-use crate::number::put_float;
-use crate::number::put_number;
-use crate::number::put_signed;
+use print::line::byte;
+use print::line::least;
+use print::line::part;
+use print::line::repeated;
+use print::line::words;
+use print::line::write;
+use print::number::put_float;
+use print::number::put_number;
+use print::number::put_signed;
 
 // The names, a few to a function: the check of a function grows faster than its arms.
 fn put_rotation_name(out: &mut [u8], at: usize, kind: u32) -> usize {
@@ -266,14 +266,19 @@ fn put_records(out: &mut [u8], at: usize, n: u64) -> usize {
     words(out, a, b" records")
 }
 
+// Puts how many records a \t holds.
+fn put_inside(out: &mut [u8], at: usize, n: u32) -> usize {
+    let a = words(out, at, b", ");
+    let b = put_records(out, a, n as u64);
+    words(out, b, b" inside")
+}
+
 fn put_transform(out: &mut [u8], at: usize, r: tag::Record) -> usize {
     let a = words(out, at, b"transform");
     let b = put_course(out, a, r.w1, r.w2, r.w3);
     let c = words(out, b, b", acceleration ");
     let d = put_float(out, c, r.w4);
-    let e = words(out, d, b", ");
-    let f = put_records(out, e, r.w5 as u64);
-    words(out, f, b" inside")
+    put_inside(out, d, r.w5)
 }
 
 fn put_drawing(out: &mut [u8], at: usize, text: &[u8], r: tag::Record) -> usize {
@@ -332,16 +337,21 @@ fn put_tag(out: &mut [u8], at: usize, text: &[u8], r: tag::Record) -> usize {
     }
 }
 
+// Puts a record's number and kind.
+fn put_reference(out: &mut [u8], at: usize, i: usize, kind: u32) -> usize {
+    let a = words(out, at, b" (record ");
+    let b = put_number(out, a, i as u64);
+    let c = put_named(out, b, b", kind ", kind);
+    byte(out, c, b')')
+}
+
 // Writes the line of a record that lies in `depth` \t's.
 fn write_record(out: &mut [u8], text: &[u8], r: tag::Record, i: usize, depth: usize) {
     let a = repeated(out, 0, b' ', depth);
     let b = repeated(out, a, b' ', depth);
     let c = put_tag(out, b, text, r);
-    let d = words(out, c, b" (record ");
-    let e = put_number(out, d, i as u64);
-    let f = put_named(out, e, b", kind ", r.kind);
-    let g = byte(out, f, b')');
-    write(out, g);
+    let d = put_reference(out, c, i, r.kind);
+    write(out, d);
 }
 
 fn record_at(table: &[u32], i: usize) -> tag::Record
