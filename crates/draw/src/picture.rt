@@ -1,4 +1,5 @@
 // A path as an SVG picture.
+ghost use mathlib.Core.Path.{_≡_};
 ghost use Prim.Native.Nat.{_+_, _*_, _≤_};
 ghost use lib.ListN.{length};
 use print::line::byte;
@@ -147,7 +148,9 @@ fn put_commands(out: &mut [u8], at: usize, path: &[u32], n: usize) -> usize
 }
 
 // Writes the picture of the first n commands of a path.
-pub fn write_picture(out: &mut [u8], path: &[u32], n: usize) {
+pub fn write_picture(out: &mut [u8], path: &[u32], n: usize)
+    ensures { λ _. ⌜ length (now (out .exit)) ≡ length (now (out .entry)) ⌝ }
+{
     let most = least(n, path.len() / 8);
     let a = words(
         out,

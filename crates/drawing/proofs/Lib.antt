@@ -3,6 +3,5 @@ pub mod Emitting
 pub mod Machine
 pub mod Turning
 pub mod Answering
-pub mod Clipping
 pub mod Within
 pub mod Finite

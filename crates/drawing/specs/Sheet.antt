@@ -3,28 +3,19 @@ use mathlib.Core.Path.{_≡_, refl}
 use mathlib.Core.List.{List, [], _∷_, map}
 use Prim.Native.Nat.{ℕ}
 use lib.Ieee.{round, toBits, ofInt, add, mul, div, sum}
-use Prim.Native.Char.{code}
 use Prim.Native.String.{String}
-use Prim.Native.String as String
 use Rattle.scan.specs.Scan.{span, skip, skipBack, blankAt, blankBefore}
-use Rattle.numeral.specs.Numeral.{value, wholeNumber, splitAt, exponentAt, floatOf, f32Of}
+use Rattle.numeral.specs.Sheet.{bytes}
+use Rattle.numeral.specs.Numeral.{value, splitAt, exponentAt, floatOf, f32Of}
 use Rattle.tag.specs.declared.Record.{Record}
 use Rattle.tag.specs.Table.{rec}
-use Rattle.refusal.specs.declared.Refusal.the-variants.{NotAscii, NumeralTooLong, ScaleTooLarge, NoRoom}
+use Rattle.refusal.specs.declared.Refusal.the-variants.{NumeralTooLong, ScaleTooLarge, NoRoom}
 use Rattle.drawing.specs.declared.Drawing.{Drawing}
 use Rattle.drawing.specs.declared.Drawing.the-variants.{Drawn, Refused}
-use Rattle.refusal.specs.declared.Checked.the-variants.{Good, Bad}
-use Rattle.drawing.specs.declared.Clip.{Clip}
-use Rattle.drawing.specs.Clip.{clip, clipParts, clipOf, restOf}
 use Rattle.drawing.specs.Tokens.{spells, special, tokenOf, wordEnd, tokens, untilLetter}
 use Rattle.drawing.specs.Drawing.{scaleOf, scaled, weighed, commandOf, letterTurn, walk}
 use Rattle.drawing.specs.Answer.{tokensGround, ground, drawing, answer}
 use Rattle.refusal.specs.Refusal.{textGround}
-
--- the bytes of an ASCII text
-abbrev pub bytes : String → List ℕ
-bytes String.[] = []
-bytes (String._∷_ c t) = code c ∷ bytes t
 
 -- the commands of the sheet, and some numbers as f32
 abbrev move : ℕ → ℕ → Record
@@ -106,30 +97,3 @@ pub answers : Answers (
     [])
 unfolding round toBits ofInt add mul div sum span skip skipBack blankAt blankBefore value splitAt exponentAt floatOf f32Of spells special tokenOf wordEnd tokens untilLetter scaleOf scaled weighed commandOf letterTurn walk textGround tokensGround ground answer
 answers = refl
-
--- that each clip argument has its parts
-abbrev pub Splits : List (String × Clip) → Type 0
-Splits rows = map (λ (r : String × Clip). clipOf (bytes (r .0))) rows ≡ map (λ (r : String × Clip). r .1) rows
-
--- and hands back its rest
-abbrev pub Rests : List (String × String) → Type 0
-Rests rows = map (λ (r : String × String). restOf (bytes (r .0)) (clipOf (bytes (r .0)))) rows ≡ map (λ (r : String × String). bytes (r .1)) rows
-
--- 01, Sheet: `2,m 0 0`: scale 2; `0,m`: 1; `,m`: 1, rest `,m`
-pub clips : Splits (
-    ("2,m 0 0", clip Good 2 2 7) ∷
-    ("0,m", clip Good 1 2 3) ∷
-    (",m", clip Good 1 0 2) ∷
-    (" 007 , m", clip Good 7 7 8) ∷
-    ("4294967295,m", clip Good 4294967295 11 12) ∷
-    (" 4294967296,m", clip Good 1 1 13) ∷
-    ("+2,m", clip Good 1 0 4) ∷
-    ("\t m 0 0", clip Good 1 2 7) ∷
-    ("2,\u{80}", clip (Bad (NotAscii 2)) 1 0 0) ∷
-    [])
-unfolding span skip skipBack blankAt blankBefore value wholeNumber clipParts textGround
-clips = refl
-
-pub rests : Rests (("2, m 0 0", "m 0 0") ∷ (",m", ",m") ∷ (" m 0, 0 ", "m 0, 0 ") ∷ ("3,", "") ∷ [])
-unfolding span skip skipBack blankAt blankBefore value wholeNumber clipParts textGround
-rests = refl

@@ -13,7 +13,7 @@ use Rattle.refusal.specs.declared.Checked.the-variants.{Good, Bad}
 use Rattle.drawing.specs.Answer as Drawing
 use Rattle.drawing.specs.Answer.{commandsDrawn}
 use Rattle.drawing.specs.declared.Drawing.{Drawing}
-use Rattle.drawing.specs.declared.Clip.{Clip}
+use Rattle.clips.specs.declared.Clip.{Clip}
 
 abbrev pub refusalWord : Refusal → ℕ
 refusalWord r = numberOf r * 2 ^ 48 + placeOf r % 2 ^ 32

@@ -1,7 +1,7 @@
 // The C interface, declared in include/hannuvel.h. A call answers one number: bits 48 to 63 the refusal's ground, 0 for none; bits 32 to 47 an extra; bits 0 to 31 the value, or the refusal's place or count.
 ghost use mathlib.Core.Path.{_≡_};
 ghost use Rattle.read.specs.Reading.{wholeText, lessBraces};
-ghost use Rattle.drawing.specs.Clip.{clipOf};
+ghost use Rattle.clips.specs.Clip.{clipOf};
 ghost use Rattle.hannuvel.specs.Packed.{refusalWord, readingWord, ReadingCall, drawingWord, DrawingCall, clipWord};
 
 fn packed_refusal(r: refusal::Refusal) -> u64
@@ -54,7 +54,7 @@ pub extern "C" fn hannuvel_parse_drawing(text: &[u8], exponent: u32, path: &mut 
     packed_drawing(drawing::parse_drawing(text, exponent, path))
 }
 
-fn packed_clip(c: drawing::Clip) -> u64
+fn packed_clip(c: clips::Clip) -> u64
     ensures { λ w. ⌜ w ≡ clipWord c ⌝ }
 {
     let checked = c.checked;
@@ -69,5 +69,5 @@ fn packed_clip(c: drawing::Clip) -> u64
 pub extern "C" fn hannuvel_split_clip_arg(text: &[u8]) -> u64
     ensures { λ r. ⌜ r ≡ clipWord (clipOf (now (text .entry))) ⌝ }
 {
-    packed_clip(drawing::clip_at(text))
+    packed_clip(clips::clip_at(text))
 }

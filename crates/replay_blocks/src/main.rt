@@ -1,155 +1,11 @@
 // Replays a stored list of reading calls: each line of standard input names a call by a letter and gives the number of words of the table and the text, in hexadecimal, and standard output has a line for each, with the answer and every word of the table.
-ghost use mathlib.Core.Path.{_≡_};
-ghost use Prim.Native.Nat.{_+_, _*_, _<_, _≤_};
+ghost use Prim.Native.Nat.{_≤_};
 ghost use lib.ListN.{length};
 ghost use Rattle.io.specs.Counts.{Counts};
 
-// The value of a digit, 16 for any other byte.
-fn digit(b: u8) -> u8
-    ensures { λ r. ⌜ r ≤ 16 ⌝ }
-{
-    if b < 48 {
-        16
-    } else if b <= 57 {
-        b - 48
-    } else if b < 65 {
-        16
-    } else if b <= 70 {
-        b - 55
-    } else {
-        16
-    }
-}
-
-// The byte that two digits give, 256 where they are none.
-fn pair(line: &[u8], p: usize) -> u64
-    requires { ⌜ p + 2 ≤ length (now line) ⌝ }
-    ensures { λ r. ⌜ r ≤ 256 ⌝ }
-{
-    let a = digit(line[p]);
-    let b = digit(line[p + 1]);
-    if a > 15 {
-        return 256;
-    }
-    if b > 15 {
-        return 256;
-    }
-    a as u64 * 16 + b as u64
-}
-
-// The word that eight digits give, 2 ^ 32 where they are none.
-fn word_at(line: &[u8], p: usize) -> u64
-    requires { ⌜ p + 8 ≤ length (now line) ⌝ }
-    ensures { λ r. ⌜ r ≤ 4294967296 ⌝ }
-{
-    let a = pair(line, p);
-    let b = pair(line, p + 2);
-    let c = pair(line, p + 4);
-    let d = pair(line, p + 6);
-    if a > 255 {
-        return 4294967296;
-    }
-    if b > 255 {
-        return 4294967296;
-    }
-    if c > 255 {
-        return 4294967296;
-    }
-    if d > 255 {
-        return 4294967296;
-    }
-    a * 16777216 + b * 65536 + c * 256 + d
-}
-
-// Whether digits fill a line from its twelfth byte on, in pairs.
-fn is_text(line: &[u8]) -> bool {
-    let mut i: usize = 11;
-    while i < line.len() {
-        if i + 1 == line.len() {
-            return false;
-        }
-        if pair(line, i) > 255 {
-            return false;
-        }
-        i += 2;
-    }
-    true
-}
-
-// Puts the bytes that those digits give into `bytes`, as far as it goes, and yields how many they are.
-fn text_of(line: &[u8], bytes: &mut [u8]) -> usize
-    ensures { λ r. ⌜ Counts r (now (bytes .exit)) ⌝ }
-{
-    let mut i: usize = 11;
-    let mut n: usize = 0;
-    while i + 1 < line.len() {
-        if n == bytes.len() {
-            return n;
-        }
-        bytes[n] = (pair(line, i) % 256) as u8;
-        n += 1;
-        i += 2;
-    }
-    n
-}
-
-fn letter(d: u8) -> u8
-    requires { ⌜ d < 16 ⌝ }
-{
-    if d < 10 { d + 48 } else { d + 55 }
-}
-
-// Writes the last digits of w from a place on.
-fn put(out: &mut [u8], at: usize, w: u64, digits: usize)
-    requires { ⌜ at + digits ≤ length (now out) ⌝ }
-{
-    let mut i = digits;
-    let mut v = w;
-    while i > 0 {
-        i -= 1;
-        out[at + i] = letter((v % 16) as u8);
-        v = v / 16;
-    }
-}
-
-// Writes a space and the digits of a word from a place on.
-fn put_word(out: &mut [u8], at: usize, w: u32)
-    requires { ⌜ at + 9 ≤ length (now out) ⌝ }
-{
-    out[at] = 32;
-    put(out, at + 1, w as u64, 8);
-}
-
-// Puts a line into out: the sixteen digits of an answer, the table's words as far as 8,224 go, and a line feed. Yields its length.
-fn put_answer(out: &mut [u8], r: u64, table: &[u32]) -> usize
-    requires { ⌜ 74033 ≤ length (now out) ⌝ }
-    ensures { λ r. ⌜ Counts r (now (out .exit)) ⌝ }
-{
-    put(out, 0, r, 16);
-    let mut i: usize = 0;
-    while i < table.len() {
-        if i == 8224 {
-            break;
-        }
-        put_word(out, i * 9 + 16, table[i]);
-        i += 1;
-    }
-    out[i * 9 + 16] = 10;
-    i * 9 + 17
-}
-
-// Word i of a table before a call: A5A50000 + i.
-fn fill(table: &mut [u32]) {
-    let mut i: usize = 0;
-    while i < table.len() {
-        table[i] = ((2779054080 + i % 4294967296) % 4294967296) as u32;
-        i += 1;
-    }
-}
-
 // The answer of a call on a table that is filled anew.
 fn call(letter: u8, text: &[u8], table: &mut [u32]) -> u64 {
-    fill(table);
+    stored::fill(table);
     if letter == b'O' {
         return hannuvel::hannuvel_parse_overrides(text, table);
     }
@@ -172,21 +28,10 @@ fn words_of(line: &[u8]) -> u64 {
     if line[10] != 32 {
         return 8225;
     }
-    if !is_text(line) {
+    if !stored::is_text(line, 11) {
         return 8225;
     }
-    word_at(line, 2)
-}
-
-// The first byte, 0 if there is none.
-fn letter_of(line: &[u8]) -> u8 {
-    if line.len() == 0 { 0 } else { line[0] }
-}
-
-fn least(a: usize, b: usize) -> usize
-    ensures { λ r. ⌜ (r ≤ a) × (r ≤ b) ⌝ }
-{
-    if a < b { a } else { b }
+    stored::word_at(line, 2)
 }
 
 // Puts the answer of a call on the front part of a table.
@@ -194,19 +39,9 @@ fn put_call(letter: u8, text: &[u8], table: &mut [u32], words: usize, out: &mut 
     requires { ⌜ 74033 ≤ length (now out) ⌝ }
     ensures { λ r. ⌜ Counts r (now (out .exit)) ⌝ }
 {
-    let k = least(words, table.len());
+    let k = stored::least(words, table.len());
     let r = call(letter, text, &mut table[0..k]);
-    put_answer(out, r, &table[0..k])
-}
-
-// Puts the line for a form that is not known.
-fn put_unknown(out: &mut [u8]) -> usize
-    requires { ⌜ 74033 ≤ length (now out) ⌝ }
-    ensures { λ r. ⌜ Counts r (now (out .exit)) ⌝ }
-{
-    out[0] = b'?';
-    out[1] = 10;
-    2
+    stored::put_answer(out, r, &table[0..k])
 }
 
 // Puts the answer to a line into out, with its line feed, and yields its length.
@@ -216,13 +51,13 @@ fn answer_line(line: &[u8], out: &mut [u8]) -> usize
 {
     let words = words_of(line);
     if words > 8224 {
-        return put_unknown(out);
+        return stored::put_unknown(out);
     }
-    let mut bytes = text_buffer();
-    let n = text_of(line, &mut bytes);
-    let mut table = table_buffer();
+    let mut bytes = stored::text_buffer();
+    let n = stored::text_of(line, 11, &mut bytes);
+    let mut table = stored::table_buffer();
     put_call(
-        letter_of(line),
+        stored::letter_of(line),
         &bytes[..n],
         &mut table,
         words as usize,
@@ -230,30 +65,9 @@ fn answer_line(line: &[u8], out: &mut [u8]) -> usize
     )
 }
 
-// Zeros for a text of more than 12,288 bytes.
-fn text_buffer() -> [u8; 12289]
-    ensures { λ r. ⌜ 12289 ≡ length r ⌝ }
-{
-    [0; 12289]
-}
-
-// Zeros for the largest table, 1,028 records.
-fn table_buffer() -> [u32; 8224]
-    ensures { λ r. ⌜ 8224 ≡ length r ⌝ }
-{
-    [0; 8224]
-}
-
-// Zeros for the longest answer.
-fn line_buffer() -> [u8; 74033]
-    ensures { λ r. ⌜ 74033 ≡ length r ⌝ }
-{
-    [0; 74033]
-}
-
 // Writes the answer to a line.
 fn write_answer(line: &[u8]) {
-    let mut out = line_buffer();
+    let mut out = stored::line_buffer();
     let n = answer_line(line, &mut out);
     io::write_all(1, &out[..n]);
 }
@@ -267,15 +81,8 @@ fn replay(text: &[u8]) {
     }
 }
 
-// Zeros for a whole list.
-fn list_buffer() -> [u8; 524288]
-    ensures { λ r. ⌜ 524288 ≡ length r ⌝ }
-{
-    [0; 524288]
-}
-
 fn main() {
-    let mut text = list_buffer();
+    let mut text = stored::list_buffer();
     let n = io::read_full(0, &mut text);
     replay(&text[..n]);
 }

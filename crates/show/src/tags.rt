@@ -416,7 +416,9 @@ fn write_count(out: &mut [u8], n: usize) {
 }
 
 // Writes the first n records of a table, and how many they are.
-pub fn write_records(out: &mut [u8], text: &[u8], table: &[u32], n: usize) {
+pub fn write_records(out: &mut [u8], text: &[u8], table: &[u32], n: usize)
+    ensures { λ _. ⌜ length (now (out .exit)) ≡ length (now (out .entry)) ⌝ }
+{
     let most = least(n, table.len() / 8);
     let mut i: usize = 0;
     while i < most {

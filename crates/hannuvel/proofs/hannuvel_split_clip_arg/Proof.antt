@@ -3,7 +3,7 @@ use Rattle.hannuvel.proofs.hannuvel_split_clip_arg.Statement.{statement
 use Rattle.hannuvel.proofs.hannuvel_split_clip_arg.Tie as tie
 use Rattle.hannuvel.proofs.hannuvel_split_clip_arg.Reads as reads
 use Rattle.hannuvel.proofs.hannuvel_split_clip_arg.Lts as lts
-use Rattle.drawing.proofs.clip_at.Reads as clip-at-reads
+use Rattle.clips.proofs.clip_at.Reads as clip-at-reads
 use Rattle.hannuvel.proofs.packed_clip.Reads as packed-clip-reads
 
 clip-at-requires : tie.Need-clip-at-requires

@@ -17,11 +17,8 @@ slice-write-out c = search needs
 enum-told : tie.Need-enum-told
 enum-told c = search needs
 
-slice-write-out-2 : tie.Need-slice-write-out-2
-slice-write-out-2 c = search needs
-
-slice-write-out-3 : tie.Need-slice-write-out-3
-slice-write-out-3 c = simp length-set (omega arith)
+put-unknown-requires : tie.Need-put-unknown-requires
+put-unknown-requires c κs = search needs
 
 same-length : tie.Need-same-length
 same-length c = search needs
@@ -33,7 +30,7 @@ same-length-2 : tie.Need-same-length-2
 same-length-2 c = search needs
 
 returns-2 : tie.Need-returns-2
-returns-2 c = counts 2 (set (set (c .before .before .before .args .out .now) 0 63) 1 10) (simp length-set (omega arith))
+returns-2 c = search needs
 
 pub put-answer-spec : {M : Type 1} → statement M
 put-answer-spec =
@@ -43,8 +40,7 @@ put-answer-spec =
     put-requires
     slice-write-out
     enum-told
-    slice-write-out-2
-    slice-write-out-3
+    put-unknown-requires
     same-length
     returns
     same-length-2

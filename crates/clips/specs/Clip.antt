@@ -1,0 +1,76 @@
+-- A clip argument: Rust's `split_clip_arg`.
+use mathlib.Core.Path.{_≡_}
+use mathlib.Core.List.{List}
+use Prim.Native.Nat.{ℕ, _+_, _-_, _≤_}
+use lib.Dec.{ltb, eqb}
+use lib.ListN.{length, take, drop}
+use Rattle.scan.specs.Scan.{pick, inClass, spanTo, trimStart, trimEnd}
+use Rattle.scan.specs.declared.Class.the-variants.{Not}
+use Rattle.numeral.specs.Numeral.{wholeNumber}
+use Rattle.refusal.specs.Refusal.{numberOf, placeOf}
+use Rattle.refusal.specs.declared.Checked.{Checked}
+use Rattle.refusal.specs.declared.Checked.the-variants.{Good, Bad}
+use Rattle.clips.specs.declared.Clip.{Clip}
+use Rattle.refusal.specs.Refusal.{textGround}
+
+-- what no u32 is as large as
+abbrev pub tooLarge : ℕ
+tooLarge = 4294967296
+
+-- 01: "the scale (at least 1)"
+abbrev pub atLeastOne : ℕ → ℕ
+atLeastOne n = pick (eqb n 0) 1 n
+
+abbrev pub clip : Checked → ℕ → ℕ → ℕ → Clip
+clip c scale from to = record { checked = c; scale = scale; from = from; to = to }
+
+-- where the argument begins, less leading blanks, and its first comma, or the end
+abbrev pub argument : List ℕ → ℕ
+argument s = trimStart s 0 (length s)
+
+abbrev pub comma : List ℕ → ℕ
+comma s = spanTo (inClass (Not 44)) s (argument s) (length s)
+
+-- what stands before the comma, blanks around it dropped, as a whole number: digits alone, and at least one
+abbrev pub head : List ℕ → ℕ
+head s = wholeNumber 10 s (argument s) (trimEnd s (argument s) (comma s))
+
+-- the scale before the first comma and what is behind it, where that is a u32; else 1 and the argument; leading blanks dropped
+unfoldable pub clipParts : List ℕ → Clip
+clipParts s =
+    let all = clip Good 1 (argument s) (length s) in
+    let some = clip Good (atLeastOne (head s)) (trimStart s (comma s + 1) (length s)) (length s) in
+    pick (ltb (comma s) (length s)) (pick (ltb (head s) tooLarge) some all) all
+
+abbrev pub clipBy : Checked → List ℕ → Clip
+clipBy Good s = clipParts s
+clipBy (Bad r) s = clip (Bad r) 1 0 0
+
+-- `split_clip_arg`, by places: grounds 1 and 2; beside a refusal scale 1 and an empty part
+abbrev pub clipOf : List ℕ → Clip
+clipOf s = clipBy (textGround s) s
+
+-- the part of the text that is handed back
+abbrev pub restOf : List ℕ → Clip → List ℕ
+restOf s c = take (c .to - c .from) (drop (c .from) s)
+
+-- the ground's number, 0 for none; its place
+abbrev pub clipGround : Checked → ℕ
+clipGround Good = 0
+clipGround (Bad r) = numberOf r
+
+abbrev pub clipPlace : Checked → ℕ
+clipPlace Good = 0
+clipPlace (Bad r) = placeOf r
+
+-- a clip argument's parts: what a definition names, its places in order
+pub record ClipIn (s : List ℕ) (d r : Clip) : Type 0 where
+  pub is : r ≡ d
+  pub order : r .from ≤ r .to
+  pub high : r .to ≤ length s
+
+-- what `split_clip_arg` says of its answer: the part of the text that is handed back, the scale, and ground 1 or 2
+pub record Splits (s part : List ℕ) (scale : ℕ) (c : Checked) : Type 0 where
+  pub rest : part ≡ restOf s (clipOf s)
+  pub size : scale ≡ clipOf s .scale
+  pub ground : c ≡ textGround s
