@@ -1,23 +1,19 @@
 -- The answer and the table, from the two runs of the reader.
-use mathlib.Core.Path.{_≡_, refl, sym, ap, _∙_}
-use mathlib.Core.List.{List, [], _∷_, _++_}
-use mathlib.Core.Bool.{Bool, true, false}
+use mathlib.Core.Path.{_≡_, sym}
+use mathlib.Core.List.{List, [], _++_}
 use mathlib.Core.Logic.{⊎-elim}
-use Prim.Native.Nat.{ℕ, _+_, _*_, _/_, _≤_, _<_}
+use Prim.Native.Nat.{ℕ, _+_, _/_, _≤_, _<_}
 use native.Mathlib.Omega.{arith}
-use lib.Dec.{ltb, leb}
 use lib.ListN.{length}
 use borrow.Author.Tests.{lt-ltb}
-use Rattle.scan.specs.Scan.{pick}
 use Rattle.scan.proofs.Laws.{le-or-lt}
 use Rattle.refusal.specs.Refusal.{mostBytes}
 use Rattle.refusal.specs.declared.Refusal.{Refusal}
-use Rattle.tag.specs.Table.{encode, laid}
+use Rattle.tag.specs.Table.{encode}
 use Rattle.tag.proofs.Table.{laid-none}
 use Rattle.read.specs.declared.Out.{Out}
 use Rattle.read.specs.declared.Reading.{Reading}
 use Rattle.read.specs.declared.Reading.the-variants.{Read, Refused}
-use Rattle.refusal.specs.declared.Checked.{Checked}
 use Rattle.refusal.specs.declared.Checked.the-variants.{Good, Bad}
 use Rattle.read.specs.declared.Span.{Span}
 use Rattle.read.specs.Reading.{Told, readGround, blockOf, answer, after, Answered}

@@ -1,22 +1,21 @@
 -- The numbers in front of a \t's tags, one after the other.
-use mathlib.Core.Path.{_≡_, refl, sym, ap, _∙_}
-use mathlib.Core.List.{List, [], _∷_}
-use mathlib.Core.Bool.{Bool, true, false}
+use mathlib.Core.Path.{_≡_, refl, sym, ap}
+use mathlib.Core.List.{List, []}
 use mathlib.Core.Logic.{⊎-elim}
 use Prim.Native.Nat.{ℕ, zero, suc, _+_, _-_, _≤_, _<_}
 use native.Mathlib.Omega.{arith}
 use lib.ListN.{getD}
 use lib.Dec.{ltb, eqb}
-use borrow.Author.Tests.{lt-ltb, le-ltb, ne-eqb}
+use borrow.Author.Tests.{le-ltb, ne-eqb}
 use Rattle.scan.specs.Scan.{pick, inClass, trimStart}
 use Rattle.scan.specs.declared.Class.the-variants.{Neither}
 use Rattle.scan.proofs.Laws.{le-or-lt, span-low, skip-low, blank-at-fits}
 use Rattle.numeral.specs.Numeral.{F32, number, tooLong, f32At, wordOfF32}
 use Rattle.numeral.specs.declared.Numeral.the-variants.{No, TooLong, Word}
 use Rattle.lists.specs.declared.Found.{Found}
-use Rattle.lists.specs.declared.Found.the-variants.{Nowhere, At}
+use Rattle.lists.specs.declared.Found.the-variants.{At}
 use Rattle.tag.specs.Table.{bits}
-use Rattle.read.specs.Block.{Peel, peeled, peelHead, headEnd, peel, peelTo}
+use Rattle.read.specs.Block.{Peel, peeled, peelHead, headEnd, peel}
 use Rattle.read.specs.Heads.{headed, headsFrom, noHeads, Peels}
 use Rattle.read.specs.declared.Heads.{Heads}
 

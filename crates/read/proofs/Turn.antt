@@ -1,8 +1,7 @@
 -- What the readers say of the table, put together.
 use mathlib.Core.Path.{_≡_, refl, sym, ap, subst, _∙_}
 use mathlib.Core.List.{List, [], _∷_, _++_, append-nil}
-use mathlib.Core.Logic.{⊎-elim}
-use Prim.Native.Nat.{ℕ, zero, suc, _+_, _-_, _*_, _≤_, _<_, min}
+use Prim.Native.Nat.{ℕ, zero, suc, _+_, _-_, _*_, _≤_, min}
 use native.Mathlib.Omega.{arith}
 use native.Mathlib.Nat.{zero-min}
 use native.Mathlib.Numerals.{add-one}
@@ -12,19 +11,18 @@ use Rattle.scan.specs.Scan.{trimStart}
 use Rattle.scan.proofs.Laws.{picked}
 use lib.ListN.{length, getD, take, drop, length-append, length-drop, take-append-drop}
 use lib.Seq.{length-take-le}
-use borrow.Author.Tests.{eq-eqb, ne-eqb}
+use borrow.Author.Tests.{ne-eqb}
 use Rattle.lists.specs.Lists.{firstOf}
 use Rattle.lists.specs.declared.Found.{Found}
 use Rattle.lists.specs.declared.Found.the-variants.{Nowhere, At}
 use Rattle.float.specs.Float.{toWord}
 use Rattle.numeral.specs.Numeral.{F32, number, tooLong, f32At}
-use Rattle.tag.specs.Tag.{AnimatedTag, Tags, and, append, T}
-use Rattle.tag.specs.Table.{records, encode, laid, bits, tRecord}
+use Rattle.tag.specs.Table.{encode, laid, bits, tRecord}
 use Rattle.tag.specs.declared.Record.{Record}
 use Rattle.tag.proofs.Table.{length-laid, laid-t, laid-step, rest-is, rest-back}
 use Rattle.tag.proofs.Tags.{encode-append}
 use Rattle.plain.specs.Plain.{One, no, long, kept, far, plainAt, floatOf, timeOf}
-use Rattle.plain.specs.Coded.{recordOf, keptOf, cutWord}
+use Rattle.plain.specs.Coded.{keptOf, cutWord}
 use Rattle.plain.specs.declared.Kept.{Kept}
 use Rattle.plain.proofs.Numbers.{Back, f32-back}
 use Rattle.plain.proofs.Gives.{Single}
@@ -32,10 +30,10 @@ use Rattle.plain.proofs.Bridge.{plain-single}
 use Rattle.read.specs.declared.Out.{Out}
 use Rattle.read.specs.declared.Heads.{Heads}
 use Rattle.read.specs.declared.Peeled.{Peeled}
-use Rattle.read.specs.Block.{Got, nothing, join, oneGot, Peel, peelHead, peel, peelTo, headTimes, headAccel, tOf, headEnd, one, parse, tAt}
+use Rattle.read.specs.Block.{Got, nothing, join, oneGot, Peel, peelHead, peel, peelTo, headTimes, headAccel, headEnd, parse, tAt}
 use Rattle.read.specs.Heads.{headed, headsFrom, noHeads, tWords, Peels}
 use Rattle.read.specs.Kept.{keptRecords, keptGot, joinedOut, aroundOut}
-use Rattle.read.specs.Reading.{keptTags, outOf, Told}
+use Rattle.read.specs.Reading.{keptTags, Told}
 use Rattle.read.proofs.Walk.{t-more}
 
 -- ---- a plain tag

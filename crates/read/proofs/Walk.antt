@@ -1,14 +1,14 @@
 -- One step of the reading of a block.
 use mathlib.Core.Path.{_≡_, refl, sym, ap, _∙_}
-use mathlib.Core.List.{List, [], _∷_}
-use mathlib.Core.Bool.{Bool, true, false}
+use mathlib.Core.List.{List}
+use mathlib.Core.Bool.{Bool}
 use Prim.Native.Nat.{ℕ, zero, suc, _+_, _-_, _≤_, _<_}
 use native.Mathlib.Omega.{arith}
 use native.Mathlib.Nat.{le-refl}
 use lib.ListN.{getD}
 use lib.Dec.{ltb, eqb}
 use borrow.Author.Tests.{eq-eqb, ne-eqb, lt-ltb, le-ltb}
-use Rattle.scan.specs.Scan.{pick, inClass, spanTo, past, closingTo}
+use Rattle.scan.specs.Scan.{inClass, spanTo, past, closingTo}
 use Rattle.scan.specs.declared.Class.the-variants.{Digit, Letter, Not}
 use Rattle.scan.proofs.Laws.{picked, span-low, closing-low}
 use Rattle.plain.specs.Names.{keyAt, tKey}

@@ -1,20 +1,20 @@
 -- A block's tags: Rust's `parse_overrides`, `read_param`, `parse_one`, `parse_t`, `peel_leading_numbers`, by positions of the whole text s.
 -- 01, Reading.
-use mathlib.Core.Path.{_≡_, refl}
+use mathlib.Core.Path.{_≡_}
 use mathlib.Core.List.{List, [], _∷_}
-use mathlib.Core.Bool.{Bool, true, false}
+use mathlib.Core.Bool.{false}
 use Prim.Native.Nat.{ℕ, zero, suc, _+_, _-_, _≤_}
 use lib.Dec.{ltb, eqb}
 use lib.IntN.{pos}
 use lib.Ieee.{Float, fin}
-use lib.ListN.{length, getD}
+use lib.ListN.{getD}
 use Rattle.scan.specs.Scan.{pick, inClass, spanTo, past, trimStart, closingTo}
 use Rattle.scan.specs.declared.Class.the-variants.{Digit, Letter, Not, Neither}
 use Rattle.numeral.specs.Numeral.{F32, number, tooLong, f32At}
 use Rattle.lists.specs.Lists.{firstOf}
 use Rattle.lists.specs.declared.Found.{Found}
 use Rattle.lists.specs.declared.Found.the-variants.{Nowhere, At}
-use Rattle.tag.specs.Tag.{AnimatedTag, Tags, and, append, Times, absent, times, T}
+use Rattle.tag.specs.Tag.{Tags, and, append, Times, absent, times, T}
 use Rattle.plain.specs.Names.{keyAt, tKey}
 use Rattle.plain.specs.Plain.{One, no, long, kept, far, plainAt, timeOf}
 use Rattle.read.specs.declared.Head.{Head}

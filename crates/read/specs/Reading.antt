@@ -1,8 +1,7 @@
 -- What the two reading calls answer, and what the table holds afterwards.
-use mathlib.Core.Path.{_≡_, refl}
-use mathlib.Core.List.{List, [], _∷_}
-use mathlib.Core.Bool.{Bool, true, false}
-use Prim.Native.Nat.{ℕ, zero, suc, _+_, _-_, _*_, _/_, _≤_, min}
+use mathlib.Core.Path.{_≡_}
+use mathlib.Core.List.{List}
+use Prim.Native.Nat.{ℕ, _-_, _/_, _≤_, min}
 use lib.Dec.{ltb, leb, eqb}
 use lib.ListN.{length, getD}
 use Rattle.scan.specs.Scan.{pick, inClass, past, trimStart, trimEnd}
@@ -10,7 +9,6 @@ use Rattle.scan.specs.declared.Class.the-variants.{Is}
 use Rattle.lists.specs.declared.Found.{Found}
 use Rattle.lists.specs.declared.Found.the-variants.{Nowhere, At}
 use Rattle.refusal.specs.Refusal.{numberOf, placeOf, mostPlaces, textGround}
-use Rattle.refusal.specs.declared.Refusal.{Refusal}
 use Rattle.refusal.specs.declared.Refusal.the-variants.{NumeralTooLong, FadeTooFar, NoRoom}
 use Rattle.tag.specs.Table.{encode, laid, width}
 use Rattle.read.specs.declared.Out.{Out}

@@ -1,17 +1,15 @@
 -- Worked examples, by computation: 01's sheet where it speaks of reading, and the traps.
 use mathlib.Core.Path.{_≡_, refl}
 use mathlib.Core.List.{List, [], _∷_, map}
-use Prim.Native.Nat.{ℕ, suc, zero}
 use Prim.Native.String.{String}
 use lib.Ieee.{round, toBits, toSigned}
-use lib.ListN.{length}
 use Rattle.scan.specs.Scan.{span, back, skip, skipBack, blankAt, blankBefore, closing}
 use Rattle.float.specs.Float.{maxZero, roundAway, roundByte}
 use Rattle.numeral.specs.Sheet.{bytes}
 use Rattle.numeral.specs.Numeral.{value, wholeNumber, i32Of, hexAt, splitAt, exponentAt, floatOf, f32Of}
 use Rattle.colour.specs.Colour.{trimmed, ampersands, zeroXAt, digits, alphaAt, colourAt}
 use Rattle.lists.specs.Lists.{split}
-use Rattle.refusal.specs.declared.Refusal.the-variants.{NotAscii, NumeralTooLong, FadeTooFar, NoRoom}
+use Rattle.refusal.specs.declared.Refusal.the-variants.{NumeralTooLong, FadeTooFar}
 use Rattle.tag.specs.declared.Record.{Record}
 use Rattle.tag.specs.Tag.{append}
 use Rattle.tag.specs.Table.{rec, records, encode}

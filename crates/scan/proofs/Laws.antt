@@ -1,14 +1,14 @@
 -- One step of each scan, and bounds.
-use mathlib.Core.Path.{_≡_, refl, sym, ap, subst, _∙_}
-use mathlib.Core.List.{List, [], _∷_}
-use mathlib.Core.Bool.{Bool, true, false, not}
+use mathlib.Core.Path.{_≡_, refl}
+use mathlib.Core.List.{List}
+use mathlib.Core.Bool.{Bool, true, false}
 use mathlib.Core.Logic.{_⊎_, inl, inr, ⊎-elim}
 use Prim.Native.Nat.{ℕ, zero, suc, _+_, _-_, _≤_, _<_}
 use native.Mathlib.Omega.{arith}
-use native.Mathlib.Nat.{le-refl, add-zero}
+use native.Mathlib.Nat.{le-refl}
 use native.Mathlib.Decide.{decLe}
-use lib.ListN.{length, getD}
-use lib.Dec.{ltb, leb, eqb}
+use lib.ListN.{getD}
+use lib.Dec.{eqb}
 use borrow.Author.Tests.{eq-eqb, ne-eqb, lt-ltb, le-ltb, le-leb, lt-leb}
 use Rattle.scan.specs.Scan.{pick, digitOf, isBlank, blankAt, blankBefore, span, spanTo, back, backTo, skip, skipTo, skipBack, trimEnd, opened, closing, closingTo}
 

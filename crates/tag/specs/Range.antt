@@ -1,7 +1,7 @@
 -- 01, A table record: the range of every word, by kind. One row for each kind, and the few rules that join words.
 use mathlib.Core.List.{List, [], _∷_}
 use mathlib.Core.Bool.{Bool, true, false}
-use Prim.Native.Nat.{ℕ, zero, suc, _+_, _-_}
+use Prim.Native.Nat.{ℕ, _+_, _-_}
 use lib.Dec.{leb, ltb, eqb}
 use lib.Ieee.{binary32, ofBits}
 use lib.ListN.{getD}

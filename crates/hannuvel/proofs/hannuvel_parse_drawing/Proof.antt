@@ -1,10 +1,6 @@
 use borrow.Author.Needs.{needs}
 use Rattle.hannuvel.proofs.hannuvel_parse_drawing.Statement.{statement}
 use Rattle.hannuvel.proofs.hannuvel_parse_drawing.Tie as tie
-use Rattle.hannuvel.proofs.hannuvel_parse_drawing.Reads as reads
-use Rattle.hannuvel.proofs.hannuvel_parse_drawing.Lts as lts
-use Rattle.drawing.proofs.parse_drawing.Reads as parse-drawing-reads
-use Rattle.hannuvel.proofs.packed_drawing.Reads as packed-drawing-reads
 
 parse-drawing-requires : tie.Need-parse-drawing-requires
 parse-drawing-requires c κs = search needs

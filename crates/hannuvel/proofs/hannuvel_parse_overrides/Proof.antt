@@ -1,10 +1,6 @@
 use borrow.Author.Needs.{needs}
 use Rattle.hannuvel.proofs.hannuvel_parse_overrides.Statement.{statement}
 use Rattle.hannuvel.proofs.hannuvel_parse_overrides.Tie as tie
-use Rattle.hannuvel.proofs.hannuvel_parse_overrides.Reads as reads
-use Rattle.hannuvel.proofs.hannuvel_parse_overrides.Lts as lts
-use Rattle.hannuvel.proofs.packed_reading.Reads as packed-reading-reads
-use Rattle.read.proofs.parse_overrides.Reads as parse-overrides-reads
 
 parse-overrides-requires : tie.Need-parse-overrides-requires
 parse-overrides-requires c κs = search needs

@@ -1,10 +1,6 @@
 use borrow.Author.Needs.{needs}
 use Rattle.hannuvel.proofs.hannuvel_parse_raw_block.Statement.{statement}
 use Rattle.hannuvel.proofs.hannuvel_parse_raw_block.Tie as tie
-use Rattle.hannuvel.proofs.hannuvel_parse_raw_block.Reads as reads
-use Rattle.hannuvel.proofs.hannuvel_parse_raw_block.Lts as lts
-use Rattle.hannuvel.proofs.packed_reading.Reads as packed-reading-reads
-use Rattle.read.proofs.parse_raw_block.Reads as parse-raw-block-reads
 
 parse-raw-block-requires : tie.Need-parse-raw-block-requires
 parse-raw-block-requires c κs = search needs

@@ -1,10 +1,6 @@
 use borrow.Author.Needs.{needs}
 use Rattle.hannuvel.proofs.hannuvel_split_clip_arg.Statement.{statement}
 use Rattle.hannuvel.proofs.hannuvel_split_clip_arg.Tie as tie
-use Rattle.hannuvel.proofs.hannuvel_split_clip_arg.Reads as reads
-use Rattle.hannuvel.proofs.hannuvel_split_clip_arg.Lts as lts
-use Rattle.clips.proofs.clip_at.Reads as clip-at-reads
-use Rattle.hannuvel.proofs.packed_clip.Reads as packed-clip-reads
 
 clip-at-requires : tie.Need-clip-at-requires
 clip-at-requires c κs = search needs

@@ -1,9 +1,6 @@
 use borrow.Author.Needs.{needs}
 use Rattle.hannuvel.proofs.packed_clip.Statement.{statement}
 use Rattle.hannuvel.proofs.packed_clip.Tie as tie
-use Rattle.hannuvel.proofs.packed_clip.Reads as reads
-use Rattle.hannuvel.proofs.packed_clip.Lts as lts
-use Rattle.hannuvel.proofs.packed_refusal.Reads as packed-refusal-reads
 
 enum-known-checked : tie.Need-enum-known-checked
 enum-known-checked c = search needs

@@ -2,9 +2,6 @@ use native.Mathlib.Omega.{arith}
 use borrow.Author.Needs.{needs}
 use Rattle.hannuvel.proofs.packed_drawing.Statement.{statement}
 use Rattle.hannuvel.proofs.packed_drawing.Tie as tie
-use Rattle.hannuvel.proofs.packed_drawing.Reads as reads
-use Rattle.hannuvel.proofs.packed_drawing.Lts as lts
-use Rattle.hannuvel.proofs.packed_refusal.Reads as packed-refusal-reads
 
 enum-known-d : tie.Need-enum-known-d
 enum-known-d c = search needs

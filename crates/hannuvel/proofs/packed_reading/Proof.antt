@@ -2,9 +2,6 @@ use native.Mathlib.Omega.{arith}
 use borrow.Author.Needs.{needs}
 use Rattle.hannuvel.proofs.packed_reading.Statement.{statement}
 use Rattle.hannuvel.proofs.packed_reading.Tie as tie
-use Rattle.hannuvel.proofs.packed_reading.Reads as reads
-use Rattle.hannuvel.proofs.packed_reading.Lts as lts
-use Rattle.hannuvel.proofs.packed_refusal.Reads as packed-refusal-reads
 
 enum-known-r : tie.Need-enum-known-r
 enum-known-r c = search needs

@@ -1,9 +1,6 @@
 use borrow.Author.Needs.{needs}
 use Rattle.read.proofs.around.Statement.{statement}
 use Rattle.read.proofs.around.Tie as tie
-use Rattle.read.proofs.around.Reads as reads
-use Rattle.read.proofs.around.Lts as lts
-use Rattle.lists.proofs.first.Reads as first-reads
 
 first-requires : tie.Need-first-requires
 first-requires c κs = search needs

@@ -1,9 +1,7 @@
-use borrow.Author.Tests.{le-leb, lt-leb, eq-eqb, ne-eqb, lt-ltb, le-ltb}
+use borrow.Author.Tests.{eq-eqb, ne-eqb, lt-ltb, le-ltb}
 use borrow.Author.Needs.{needs}
 use Rattle.read.proofs.brace_end.Statement.{statement}
 use Rattle.read.proofs.brace_end.Tie as tie
-use Rattle.read.proofs.brace_end.Reads as reads
-use Rattle.read.proofs.brace_end.Lts as lts
 
 sub-if2 : tie.Need-sub-if2
 sub-if2 c = search needs

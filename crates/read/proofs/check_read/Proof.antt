@@ -1,11 +1,8 @@
 use Rattle.read.specs.Reading.{readGround}
-use borrow.Author.Tests.{le-leb, lt-leb, eq-eqb, ne-eqb, lt-ltb, le-ltb}
+use borrow.Author.Tests.{le-leb, lt-leb}
 use borrow.Author.Needs.{needs}
 use Rattle.read.proofs.check_read.Statement.{statement}
 use Rattle.read.proofs.check_read.Tie as tie
-use Rattle.read.proofs.check_read.Reads as reads
-use Rattle.read.proofs.check_read.Lts as lts
-use Rattle.read.proofs.least.Reads as least-reads
 
 enum-known-long : tie.Need-enum-known-long
 enum-known-long c = search needs

@@ -4,11 +4,6 @@ use mathlib.Core.Path.{_≡_}
 use borrow.Author.Needs.{needs}
 use Rattle.read.proofs.head_at.Statement.{statement}
 use Rattle.read.proofs.head_at.Tie as tie
-use Rattle.read.proofs.head_at.Reads as reads
-use Rattle.read.proofs.head_at.Lts as lts
-use Rattle.read.proofs.param_at.Reads as param-at-reads
-use Rattle.scan.proofs.past.Reads as past-reads
-use Rattle.scan.proofs.span.Reads as span-reads
 
 add-past : tie.Need-add-past
 add-past c = search needs

@@ -2,9 +2,6 @@ use Rattle.tag.specs.Table.{laid}
 use borrow.Author.Needs.{needs}
 use Rattle.read.proofs.keep.Statement.{statement}
 use Rattle.read.proofs.keep.Tie as tie
-use Rattle.read.proofs.keep.Reads as reads
-use Rattle.read.proofs.keep.Lts as lts
-use Rattle.tag.proofs.put.Reads as put-reads
 
 enum-told : tie.Need-enum-told
 enum-told c = search needs

@@ -1,14 +1,10 @@
 use Rattle.read.specs.Block.{paramAt}
-use mathlib.Core.Path.{_≡_, refl, sym, _∙_, ap}
+use mathlib.Core.Path.{refl}
 use mathlib.Core.Logic.{⊎-elim}
-use borrow.Author.Tests.{le-leb, lt-leb, eq-eqb, ne-eqb, lt-ltb, le-ltb}
+use borrow.Author.Tests.{eq-eqb, ne-eqb, lt-ltb, le-ltb}
 use borrow.Author.Needs.{needs}
 use Rattle.read.proofs.param_at.Statement.{statement}
 use Rattle.read.proofs.param_at.Tie as tie
-use Rattle.read.proofs.param_at.Reads as reads
-use Rattle.read.proofs.param_at.Lts as lts
-use Rattle.scan.proofs.closing.Reads as closing-reads
-use Rattle.scan.proofs.span.Reads as span-reads
 
 shared-slice-read-if2 : tie.Need-shared-slice-read-if2
 shared-slice-read-if2 c = search needs

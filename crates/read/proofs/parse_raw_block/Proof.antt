@@ -2,13 +2,6 @@ use Rattle.read.specs.Reading.{lessBraces}
 use borrow.Author.Needs.{needs}
 use Rattle.read.proofs.parse_raw_block.Statement.{statement}
 use Rattle.read.proofs.parse_raw_block.Tie as tie
-use Rattle.read.proofs.parse_raw_block.Reads as reads
-use Rattle.read.proofs.parse_raw_block.Lts as lts
-use Rattle.read.proofs.brace_end.Reads as brace-end-reads
-use Rattle.read.proofs.read_span.Reads as read-span-reads
-use Rattle.scan.proofs.past.Reads as past-reads
-use Rattle.scan.proofs.trim_end.Reads as trim-end-reads
-use Rattle.scan.proofs.trim_start.Reads as trim-start-reads
 
 trim-start-requires : tie.Need-trim-start-requires
 trim-start-requires c κs = search needs

@@ -4,17 +4,11 @@ use Rattle.read.specs.Block.{peelTo}
 use borrow.Author.Tests.{eq-eqb, ne-eqb, lt-ltb, le-ltb}
 use borrow.Author.Needs.{needs}
 use native.Mathlib.Omega.{arith}
-use Prim.Native.Nat.{ℕ, _+_, _-_, _≤_, _<_}
-use mathlib.Core.Path.{_≡_, sym, ap, subst, _∙_}
+use Prim.Native.Nat.{ℕ, _-_, _≤_}
+use mathlib.Core.Path.{sym, ap, subst, _∙_}
 use Rattle.read.specs.declared.Heads.{Heads}
 use Rattle.read.proofs.peel.Statement.{statement}
 use Rattle.read.proofs.peel.Tie as tie
-use Rattle.read.proofs.peel.Reads as reads
-use Rattle.read.proofs.peel.Lts as lts
-use Rattle.numeral.proofs.f32_at.Reads as f32-at-reads
-use Rattle.read.proofs.with_head.Reads as with-head-reads
-use Rattle.scan.proofs.span.Reads as span-reads
-use Rattle.scan.proofs.trim_start.Reads as trim-start-reads
 
 abbrev Inv-loop : tie.InvT-loop
 Inv-loop text p q heads₀ i₀ heads i = (p ≤ i) × (i ≤ q) × (heads .count ≤ i - p) × Peeling (peelTo text p q) (from text q i) heads

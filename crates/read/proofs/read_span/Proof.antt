@@ -1,14 +1,9 @@
 use Rattle.read.proofs.Answer.{good-short, text-refused, refused, done}
 use native.Mathlib.Omega.{arith}
-use mathlib.Core.Path.{_≡_, refl, sym, _∙_, ap}
+use mathlib.Core.Path.{sym, _∙_}
 use borrow.Author.Needs.{needs}
 use Rattle.read.proofs.read_span.Statement.{statement}
 use Rattle.read.proofs.read_span.Tie as tie
-use Rattle.read.proofs.read_span.Reads as reads
-use Rattle.read.proofs.read_span.Lts as lts
-use Rattle.read.proofs.check_read.Reads as check-read-reads
-use Rattle.refusal.proofs.check_text.Reads as check-text-reads
-use Rattle.read.proofs.parse_overrides_depth.Reads as parse-overrides-depth-reads
 
 check-text-requires : tie.Need-check-text-requires
 check-text-requires c κs = search needs

@@ -1,11 +1,8 @@
 use Rattle.read.specs.Heads.{tWords}
-use borrow.Author.Tests.{le-leb, lt-leb, eq-eqb, ne-eqb, lt-ltb, le-ltb}
+use borrow.Author.Tests.{eq-eqb, ne-eqb}
 use borrow.Author.Needs.{needs}
 use Rattle.read.proofs.t_record.Statement.{statement}
 use Rattle.read.proofs.t_record.Tie as tie
-use Rattle.read.proofs.t_record.Reads as reads
-use Rattle.read.proofs.t_record.Lts as lts
-use Rattle.plain.proofs.time_of.Reads as time-of-reads
 
 returns : tie.Need-returns
 unfolding tWords

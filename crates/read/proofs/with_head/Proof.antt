@@ -1,10 +1,8 @@
 use Rattle.read.specs.Heads.{headed}
-use borrow.Author.Tests.{le-leb, lt-leb, eq-eqb, ne-eqb, lt-ltb, le-ltb}
+use borrow.Author.Tests.{eq-eqb, ne-eqb}
 use borrow.Author.Needs.{needs}
 use Rattle.read.proofs.with_head.Statement.{statement}
 use Rattle.read.proofs.with_head.Tie as tie
-use Rattle.read.proofs.with_head.Reads as reads
-use Rattle.read.proofs.with_head.Lts as lts
 
 returns : tie.Need-returns
 unfolding headed

@@ -1,11 +1,8 @@
 use Rattle.refusal.specs.Refusal.{textGround}
-use borrow.Author.Tests.{le-leb, lt-leb, eq-eqb, ne-eqb, lt-ltb, le-ltb}
+use borrow.Author.Tests.{lt-ltb, le-ltb}
 use borrow.Author.Needs.{needs}
 use Rattle.refusal.proofs.check_text.Statement.{statement}
 use Rattle.refusal.proofs.check_text.Tie as tie
-use Rattle.refusal.proofs.check_text.Reads as reads
-use Rattle.refusal.proofs.check_text.Lts as lts
-use Rattle.scan.proofs.span.Reads as span-reads
 
 returns : tie.Need-returns
 unfolding textGround

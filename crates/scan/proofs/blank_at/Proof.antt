@@ -1,11 +1,8 @@
 use Rattle.scan.specs.Scan.{blankAt}
-use borrow.Author.Tests.{le-leb, lt-leb, eq-eqb, ne-eqb, lt-ltb, le-ltb, not-true, not-false}
+use borrow.Author.Tests.{lt-ltb, le-ltb}
 use borrow.Author.Needs.{needs}
 use Rattle.scan.proofs.blank_at.Statement.{statement}
 use Rattle.scan.proofs.blank_at.Tie as tie
-use Rattle.scan.proofs.blank_at.Reads as reads
-use Rattle.scan.proofs.blank_at.Lts as lts
-use Rattle.scan.proofs.is_blank.Reads as is-blank-reads
 
 shared-slice-read-is-blank : tie.Need-shared-slice-read-is-blank
 shared-slice-read-is-blank c = search needs

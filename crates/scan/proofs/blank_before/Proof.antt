@@ -1,11 +1,8 @@
 use Rattle.scan.specs.Scan.{blankBefore}
-use borrow.Author.Tests.{le-leb, lt-leb, eq-eqb, ne-eqb, lt-ltb, le-ltb, not-true, not-false}
+use borrow.Author.Tests.{lt-ltb, le-ltb}
 use borrow.Author.Needs.{needs}
 use Rattle.scan.proofs.blank_before.Statement.{statement}
 use Rattle.scan.proofs.blank_before.Tie as tie
-use Rattle.scan.proofs.blank_before.Reads as reads
-use Rattle.scan.proofs.blank_before.Lts as lts
-use Rattle.scan.proofs.is_blank.Reads as is-blank-reads
 
 sub-is-blank : tie.Need-sub-is-blank
 sub-is-blank c = search needs

@@ -2,8 +2,6 @@ use Rattle.scan.proofs.Laws.{digit-below, digit-decimal, digit-between,
 use borrow.Author.Needs.{needs}
 use Rattle.scan.proofs.digit_of.Statement.{statement}
 use Rattle.scan.proofs.digit_of.Tie as tie
-use Rattle.scan.proofs.digit_of.Reads as reads
-use Rattle.scan.proofs.digit_of.Lts as lts
 
 returns : tie.Need-returns
 returns c = digit-below (c .before .args .b) (search needs)

@@ -2,10 +2,6 @@ use borrow.Author.Tests.{eq-eqb, ne-eqb}
 use borrow.Author.Needs.{needs}
 use Rattle.scan.proofs.has.Statement.{statement}
 use Rattle.scan.proofs.has.Tie as tie
-use Rattle.scan.proofs.has.Reads as reads
-use Rattle.scan.proofs.has.Lts as lts
-use Rattle.scan.proofs.digit_of.Reads as digit-of-reads
-use Rattle.scan.proofs.is_letter.Reads as is-letter-reads
 
 enum-known-class : tie.Need-enum-known-class
 enum-known-class c = search needs

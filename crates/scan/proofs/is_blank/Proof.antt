@@ -1,8 +1,6 @@
-use borrow.Author.Tests.{le-leb, lt-leb, eq-eqb, ne-eqb, lt-ltb, le-ltb, not-true, not-false}
+use borrow.Author.Tests.{le-leb, lt-leb, eq-eqb, ne-eqb}
 use Rattle.scan.proofs.is_blank.Statement.{statement}
 use Rattle.scan.proofs.is_blank.Tie as tie
-use Rattle.scan.proofs.is_blank.Reads as reads
-use Rattle.scan.proofs.is_blank.Lts as lts
 
 returns : tie.Need-returns
 returns c = simp (eq-eqb _ _ (c .if1 .taken))

@@ -1,8 +1,6 @@
-use borrow.Author.Tests.{le-leb, lt-leb, eq-eqb, ne-eqb, lt-ltb, le-ltb, not-true, not-false}
+use borrow.Author.Tests.{le-leb, lt-leb}
 use Rattle.scan.proofs.is_letter.Statement.{statement}
 use Rattle.scan.proofs.is_letter.Tie as tie
-use Rattle.scan.proofs.is_letter.Reads as reads
-use Rattle.scan.proofs.is_letter.Lts as lts
 
 returns : tie.Need-returns
 returns c = simp (le-leb 97 _ (c .if1 .taken))

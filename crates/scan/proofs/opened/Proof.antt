@@ -1,9 +1,7 @@
-use borrow.Author.Tests.{le-leb, lt-leb, eq-eqb, ne-eqb, lt-ltb, le-ltb, not-true, not-false}
+use borrow.Author.Tests.{eq-eqb, ne-eqb}
 use borrow.Author.Needs.{needs}
 use Rattle.scan.proofs.opened.Statement.{statement}
 use Rattle.scan.proofs.opened.Tie as tie
-use Rattle.scan.proofs.opened.Reads as reads
-use Rattle.scan.proofs.opened.Lts as lts
 
 add-result : tie.Need-add-result
 add-result c = search needs

@@ -2,9 +2,6 @@ use borrow.Author.Tests.{lt-ltb, le-ltb}
 use borrow.Author.Needs.{needs}
 use Rattle.scan.proofs.past.Statement.{statement}
 use Rattle.scan.proofs.past.Tie as tie
-use Rattle.scan.proofs.past.Reads as reads
-use Rattle.scan.proofs.past.Lts as lts
-use Rattle.scan.proofs.has.Reads as has-reads
 
 shared-slice-read-has : tie.Need-shared-slice-read-has
 shared-slice-read-has c = search needs

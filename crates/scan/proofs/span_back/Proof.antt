@@ -1,15 +1,12 @@
-use Rattle.scan.proofs.Laws.{span-end, span-stop, span-go, back-end, back-stop, back-go, closing-end, closing-stop, closing-go, trim-end-stop, trim-end-go}
-use Rattle.scan.specs.Scan.{inClass, spanTo, backTo, closingTo, trimStart, trimEnd}
-use Prim.Native.Nat.{ℕ, _+_, _-_, _≤_, _<_}
-use mathlib.Core.Path.{_≡_, refl, sym, _∙_, ap}
+use Rattle.scan.proofs.Laws.{back-end, back-stop, back-go}
+use Rattle.scan.specs.Scan.{inClass, backTo}
+use Prim.Native.Nat.{_-_, _≤_}
+use mathlib.Core.Path.{_≡_, sym, _∙_}
 use native.Mathlib.Omega.{arith}
-use borrow.Author.Tests.{le-leb, lt-leb, eq-eqb, ne-eqb, lt-ltb, le-ltb, not-true, not-false}
+use borrow.Author.Tests.{not-true, not-false}
 use borrow.Author.Needs.{needs}
 use Rattle.scan.proofs.span_back.Statement.{statement}
 use Rattle.scan.proofs.span_back.Tie as tie
-use Rattle.scan.proofs.span_back.Reads as reads
-use Rattle.scan.proofs.span_back.Lts as lts
-use Rattle.scan.proofs.has.Reads as has-reads
 
 abbrev Inv-loop : tie.InvT-loop
 Inv-loop text class from to e₀ e = (from ≤ e) × (e ≤ to) × (backTo (inClass «class») text from to ≡ backTo (inClass «class») text from e)

@@ -1,15 +1,10 @@
-use Rattle.scan.proofs.Laws.{span-end, span-stop, span-go, back-end, back-stop, back-go, closing-end, closing-stop, closing-go, trim-end-stop, trim-end-go}
-use Rattle.scan.specs.Scan.{inClass, spanTo, backTo, closingTo, trimStart, trimEnd}
-use Prim.Native.Nat.{ℕ, _+_, _-_, _≤_, _<_}
-use mathlib.Core.Path.{_≡_, refl, sym, _∙_, ap}
-use native.Mathlib.Omega.{arith}
-use borrow.Author.Tests.{le-leb, lt-leb, eq-eqb, ne-eqb, lt-ltb, le-ltb, not-true, not-false}
+use Rattle.scan.proofs.Laws.{trim-end-stop, trim-end-go}
+use Rattle.scan.specs.Scan.{trimEnd}
+use Prim.Native.Nat.{_-_, _≤_}
+use mathlib.Core.Path.{_≡_, sym, _∙_}
 use borrow.Author.Needs.{needs}
 use Rattle.scan.proofs.trim_end.Statement.{statement}
 use Rattle.scan.proofs.trim_end.Tie as tie
-use Rattle.scan.proofs.trim_end.Reads as reads
-use Rattle.scan.proofs.trim_end.Lts as lts
-use Rattle.scan.proofs.blank_before.Reads as blank-before-reads
 
 abbrev Inv-loop : tie.InvT-loop
 Inv-loop text from to e₀ e = (from ≤ e) × (e ≤ to) × (trimEnd text from to ≡ trimEnd text from e)

@@ -4,8 +4,6 @@ use Rattle.tag.proofs.Written.{put-room, put-none}
 use borrow.Author.Needs.{needs}
 use Rattle.tag.proofs.put.Statement.{statement}
 use Rattle.tag.proofs.put.Tie as tie
-use Rattle.tag.proofs.put.Reads as reads
-use Rattle.tag.proofs.put.Lts as lts
 
 slice-write-table : tie.Need-slice-write-table
 slice-write-table c = search needs
