@@ -1,0 +1,62 @@
+use mathlib.Core.Path.{_≡_, sym, ap, _∙_}
+use mathlib.Core.Bool.{false}
+use Prim.Native.Nat.{ℕ, _^_, _<_, _≤_}
+use native.Mathlib.Nat.{one-le-pow, pow-le-pow-right}
+use native.Mathlib.Omega.{arith}
+use lib.Dec.{lit<, le→leb}
+use lib.Ieee.{binary32, round, inFloat}
+use borrow.Author.Needs.{needs}
+use Rattle.decimal.proofs.Law.{round-zero, plus-zero}
+use Rattle.decimal.proofs.Quotient.{quotient}
+use Rattle.decimal.proofs.magnitude.Statement.{statement}
+use Rattle.decimal.proofs.magnitude.Tie as tie
+
+one-at-least : (n : ℕ) → 0 < 10 ^ n
+one-at-least n = one-le-pow n 10 (lit< tt)
+
+ten-to-requires : tie.Need-ten-to-requires
+ten-to-requires c κs = search needs
+
+int-to-float-result : tie.Need-int-to-float-result
+unfolding inFloat
+int-to-float-result c = le→leb (c .before .before .before .before .args .digits) 16777216 (omega arith)
+
+int-to-float-result-2 : tie.Need-int-to-float-result-2
+unfolding inFloat
+int-to-float-result-2 c = le→leb (c .before .before .before .before .ten-to .result) 16777216 (omega arith)
+
+returns : tie.Need-returns
+returns c =
+    let a = c .before .before .before .before .before .args in
+    let e = c .before .before .before .before .ten-to .ensures in
+    quotient (a .digits) _ (omega arith) (omega arith) (rw e (one-at-least (a .tens))) ∙ ap (λ (x : ℕ). round binary32 false (a .digits) x) e
+
+returns-2 : tie.Need-returns-2
+returns-2 c = let t = c .before .before .before .args .tens in cc (plus-zero, round-zero false (10 ^ t) (one-at-least t))
+
+cast-ratio : tie.Need-cast-ratio
+cast-ratio c = search needs
+
+ratio-requires : tie.Need-ratio-requires
+ratio-requires c κs =
+    let n = c .before .before .before .args .tens in
+    let h : n ≤ 9 = c .before .before .before .pre .1 in
+    let t : 10 ^ n ≤ 10 ^ 9 = pow-le-pow-right (lit< tt) h in
+    let z : 0 < 10 ^ n = one-at-least n in
+    (omega (arith, c .if3 .left), omega arith, omega (arith, c .before .before .ten-to .ensures), omega (arith, c .before .before .ten-to .ensures))
+
+returns-3 : tie.Need-returns-3
+returns-3 c = cc
+
+pub magnitude-spec : {M : Type 1} → statement M
+magnitude-spec =
+    tie.close
+    (tie.spec
+    ten-to-requires
+    int-to-float-result
+    int-to-float-result-2
+    returns
+    returns-2
+    cast-ratio
+    ratio-requires
+    returns-3)
