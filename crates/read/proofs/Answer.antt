@@ -1,16 +1,18 @@
--- The answer and the table, from the two runs of the reader.
-use mathlib.Core.Path.{_≡_, sym}
-use mathlib.Core.List.{List, [], _++_}
+-- The answer and the table, from what the reader gives in a scratch table.
+use mathlib.Core.Path.{_≡_, sym, ap, _∙_}
+use mathlib.Core.List.{List, _++_}
 use mathlib.Core.Logic.{⊎-elim}
-use Prim.Native.Nat.{ℕ, _+_, _/_, _≤_, _<_}
+use Prim.Native.Nat.{ℕ, _*_, _/_, _≤_, _<_, min}
 use native.Mathlib.Omega.{arith}
-use lib.ListN.{length}
-use borrow.Author.Tests.{lt-ltb}
+use lib.ListN.{length, take, drop}
+use borrow.Author.Tests.{lt-ltb, le-leb, lt-leb}
 use Rattle.scan.proofs.Laws.{le-or-lt}
-use Rattle.refusal.specs.Refusal.{mostBytes}
+use Rattle.refusal.specs.Refusal.{mostBytes, mostPlaces}
 use Rattle.refusal.specs.declared.Refusal.{Refusal}
 use Rattle.tag.specs.Table.{encode}
-use Rattle.tag.proofs.Table.{laid-none}
+use Rattle.tag.proofs.Table.{length-laid, laid-copied}
+use Rattle.lists.specs.declared.Found.{Found}
+use Rattle.lists.specs.declared.Found.the-variants.{Nowhere, At}
 use Rattle.read.specs.declared.Out.{Out}
 use Rattle.read.specs.declared.Reading.{Reading}
 use Rattle.read.specs.declared.Reading.the-variants.{Read, Refused}
@@ -28,28 +30,52 @@ good-short s e =
     (λ (h : mostBytes < length s). absurd (let z : _≡_ {A = ℕ} 0 1 = cc (rw (lt-ltb mostBytes (length s) h) at e) in omega arith))
     (le-or-lt (length s) mostBytes)
 
+-- what is read is all there is, and has room
+ground-read : (long far : Found) (k places n : ℕ) → readGround long far k places ≡ Read n → (n ≡ k) × (n ≤ places) × (n ≤ 1024)
+unfolding readGround
+ground-read (At p) far k places n e = absurd (let z : _≡_ {A = ℕ} 0 1 = cc in omega arith)
+ground-read Nowhere (At p) k places n e = absurd (let z : _≡_ {A = ℕ} 0 1 = cc in omega arith)
+ground-read Nowhere Nowhere k places n e =
+    ⊎-elim
+    (λ (h : k ≤ min places mostPlaces).
+    let q : n ≡ k = cc (rw (le-leb k (min places mostPlaces) h) at e) in
+    (q, omega arith, omega arith))
+    (λ (h : min places mostPlaces < k). absurd (let z : _≡_ {A = ℕ} 0 1 = cc (rw (lt-leb k (min places mostPlaces) h) at e) in omega arith))
+    (le-or-lt k (min places mostPlaces))
+
 module _ (s : List ℕ) (x : Span) (t : List ℕ) where
   pub text-refused : (r : Refusal) → textGround s ≡ Bad r → Answered s x t (Refused r) t
   unfolding answer after
   text-refused r e = record { reading = rw e; table = rw e }
 
-  module _ (l : List ℕ) (seen : Out) (m : ℕ) (good : textGround s ≡ Good) (a : Told [] (blockOf s x) m seen l) where
-    -- the dry run leaves the table as it was
-    dry : l ++ t ≡ t
-    dry = rw (a .table, laid-none (encode (blockOf s x .tags)))
-
-    is-answer : (r : Reading) → readGround (seen .long) (seen .far) (seen .n) (length (l ++ t) / 8) ≡ r → r ≡ answer s x (length t / 8)
+  module _ (w l : List ℕ) (seen : Out) (m : ℕ) (good : textGround s ≡ Good) (a : Told w (blockOf s x) m seen l) where
+    is-answer : (r : Reading) → readGround (seen .long) (seen .far) (seen .n) (length t / 8) ≡ r → r ≡ answer s x (length t / 8)
     unfolding answer
-    is-answer r e = sym (rw good (rw (dry, a .out) at e))
+    is-answer r e = sym (rw good (rw (a .out) at e))
 
-    pub refused : (r : Refusal) → readGround (seen .long) (seen .far) (seen .n) (length (l ++ t) / 8) ≡ Refused r → Answered s x t (Refused r) (l ++ t)
+    pub refused : (r : Refusal) → readGround (seen .long) (seen .far) (seen .n) (length t / 8) ≡ Refused r → Answered s x t (Refused r) t
     unfolding after
     refused r e =
         let k = is-answer (Refused r) e in
-        record { reading = k; table = rw (← k) dry }
+        record { reading = k; table = rw (← k) }
 
-    pub done : (n : ℕ) (m′ : ℕ) (o : Out) (u : List ℕ) → readGround (seen .long) (seen .far) (seen .n) (length (l ++ t) / 8) ≡ Read n → Told (l ++ t) (blockOf s x) m′ o u → Answered s x t (Read n) u
+    -- the records that are read have room in both tables
+    pub room : (n : ℕ) → readGround (seen .long) (seen .far) (seen .n) (length t / 8) ≡ Read n → (n ≡ seen .n) × (n ≤ length t / 8) × (n ≤ 1024)
+    room n e = ground-read (seen .long) (seen .far) (seen .n) (length t / 8) n e
+
+    pub roomy : (n : ℕ) → readGround (seen .long) (seen .far) (seen .n) (length t / 8) ≡ Read n → 8 * min m 1024 ≤ length w → (8 * n ≤ length w) × (8 * n ≤ length l) × (8 * n ≤ length t)
+    roomy n e h =
+        let r = room n e in
+        let k : n ≤ m = rw (r .0) (a .few) in
+        let g : 8 * n ≤ length w = omega arith in
+        (g, rw (a .table, length-laid (encode (blockOf s x .tags)) w) g, omega arith)
+
+    pub done : (n : ℕ) → readGround (seen .long) (seen .far) (seen .n) (length t / 8) ≡ Read n → 8 * n ≤ length w → 8 * n ≤ length t → Answered s x t (Read n) (take (8 * n) l ++ drop (8 * n) t)
     unfolding after
-    done n m′ o u e b =
+    done n e h g =
         let k = is-answer (Read n) e in
-        record { reading = k; table = rw (← k) (rw dry at (b .table)) }
+        let q : n ≡ length (encode (blockOf s x .tags)) = room n e .0 ∙ ap (λ (o : Out). o .n) (a .out) in
+        record {
+          reading = k;
+          table = rw (← k, a .table, q) (laid-copied (encode (blockOf s x .tags)) w t (rw q at h) (rw q at g));
+        }

@@ -3,6 +3,8 @@ ghost use mathlib.Core.Path.{_≡_};
 ghost use mathlib.Core.List.{[], _∷_};
 ghost use Prim.Native.Nat.{_+_, _-_, _*_, _^_, _≤_, _<_, min};
 ghost use lib.ListN.{length};
+ghost use Rattle.refusal.specs.Refusal.{textGround};
+ghost use Rattle.refusal.specs.declared.Checked.the-variants.{Good};
 ghost use Rattle.tag.specs.Table.{encode, laid};
 ghost use Rattle.read.specs.Block.{paramAt, nameEnd, headAt, HeadIn, peel as peelFrom, peelTo, tagAt, tAt, parse, oneGot};
 ghost use Rattle.read.specs.Heads.{headed, tWords, Peels};
@@ -404,7 +406,23 @@ fn check_read(o: Out, places: usize) -> Reading
     }
 }
 
-// Reads a part of the text: first into no table, then, if nothing stands against it, into the lent one.
+// Reads a part of the text into the scratch table and, if nothing stands against it, copies its records into the lent one.
+fn read_by(text: &[u8], from: usize, to: usize, scratch: &mut [u32], table: &mut [u32]) -> Reading
+    requires { ⌜ (from ≤ to) × (to ≤ length (now text)) × (textGround (now text) ≡ Good) × (8 * min (to - from) 1024 ≤ length (now scratch)) ⌝ }
+    ensures { λ r. ⌜ Answered (now (text .entry)) (record { from = from; to = to }) (now (table .entry)) r (now (table .exit)) ⌝ }
+{
+    let seen = parse_overrides_depth(text, from, to, 8, scratch);
+    let answer = check_read(seen, table.len() / 8);
+    match answer {
+        Reading::Refused(r) => Reading::Refused(r),
+        Reading::Read(n) => {
+            tag::copy(scratch, 8 * n, table);
+            Reading::Read(n)
+        }
+    }
+}
+
+// Reads a part of the text, by a scratch table that has room for all that it can hold.
 fn read_span(text: &[u8], from: usize, to: usize, table: &mut [u32]) -> Reading
     requires { ⌜ (from ≤ to) × (to ≤ length (now text)) ⌝ }
     ensures { λ r. ⌜ Answered (now (text .entry)) (record { from = from; to = to }) (now (table .entry)) r (now (table .exit)) ⌝ }
@@ -413,15 +431,16 @@ fn read_span(text: &[u8], from: usize, to: usize, table: &mut [u32]) -> Reading
     match checked {
         refusal::Checked::Bad(r) => Reading::Refused(r),
         refusal::Checked::Good => {
-            let seen = parse_overrides_depth(text, from, to, 8, &mut table[..0]);
-            let answer = check_read(seen, table.len() / 8);
-            match answer {
-                Reading::Refused(r) => Reading::Refused(r),
-                Reading::Read(n) => {
-                    let _ = parse_overrides_depth(text, from, to, 8, table);
-                    Reading::Read(n)
-                }
+            if to - from <= 64 {
+                let mut scratch = [0u32; 512];
+                return read_by(text, from, to, &mut scratch, table);
             }
+            if to - from <= 256 {
+                let mut scratch = [0u32; 2048];
+                return read_by(text, from, to, &mut scratch, table);
+            }
+            let mut scratch = [0u32; 8192];
+            read_by(text, from, to, &mut scratch, table)
         }
     }
 }

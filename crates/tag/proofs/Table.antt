@@ -1,11 +1,12 @@
 use mathlib.Core.Path.{_≡_, refl, sym, ap, _∙_}
 use mathlib.Core.List.{List, [], _∷_, _++_, append-assoc, append-nil}
 use mathlib.Core.Logic.{⊎-elim, _⊎_, inl, inr}
-use lib.Seq.{take-all, drop-length, drop-drop, length-take-le, drop-at, take-append-add, drop-append-add}
+use lib.Seq.{take-all, take-suc, take-at, drop-length, drop-drop, drop-cons, length-take-le, drop-at, set-at, take-append-add, drop-append-add}
 use Prim.Native.Nat.{ℕ, suc, _+_, _-_, _*_, _≤_, _<_, min}
 use native.Mathlib.Omega.{arith}
+use native.Mathlib.Numerals.{add-one}
 use native.Mathlib.Decide.{decLe}
-use lib.ListN.{length, take, drop, length-append, length-drop, take-append-drop}
+use lib.ListN.{length, take, drop, getD, set, length-append, length-drop, take-append-drop}
 use borrow.Author.Tests.{le-leb, lt-leb}
 use Rattle.tag.specs.declared.Record.{Record}
 use Rattle.tag.specs.Table.{laid, words, tableWords}
@@ -95,10 +96,6 @@ laid-step t g rs n m m′ e e′ =
     ∙ ap (λ (l : List ℕ). l ++ laid (drop (length (take m t) + (m′ - m)) (take m t ++ laid (drop m t) g)) rs) tk
     ∙ ap (λ (l : List ℕ). (take m t ++ take (m′ - m) (laid (drop m t) g)) ++ laid l rs) dr)
 
--- an empty table stays empty
-pub laid-none : (rs : List Record) → laid [] rs ≡ []
-laid-none rs = laid-short [] rs (omega arith)
-
 -- with room for all, the table is the records' words and then the rest of what it held
 pub laid-full : (rs : List Record) (t : List ℕ) → 8 * length rs ≤ length t → laid t rs ≡ tableWords rs ++ drop (8 * length rs) t
 unfolding laid tableWords
@@ -114,3 +111,15 @@ pub length-words : (rs : List Record) → length (tableWords rs) ≡ 8 * length 
 unfolding tableWords
 length-words [] = refl
 length-words (r ∷ rs) = let i = length-words rs in omega arith
+
+-- one word more is copied
+pub copied-more : (s t : List ℕ) (i : ℕ) → i < length s → i < length t → set (take i s ++ drop i t) i (getD s i 0) ≡ take (i + 1) s ++ drop (i + 1) t
+copied-more s t i h k =
+    let l : length (take i s) ≡ i = length-take-le i s (omega arith) in
+    rw (add-one i, drop-cons t i 0 k, take-suc s i 0 h, append-assoc)
+    (set-at (take i s) (getD t i 0) (drop (suc i) t) (getD s i 0) i l)
+
+-- records that are copied from a table with room for them to another are as if written there
+pub laid-copied : (rs : List Record) (s t : List ℕ) → 8 * length rs ≤ length s → 8 * length rs ≤ length t → take (8 * length rs) (laid s rs) ++ drop (8 * length rs) t ≡ laid t rs
+laid-copied rs s t h k =
+    rw (laid-full rs s h, take-at (tableWords rs) (drop (8 * length rs) s) (8 * length rs) (length-words rs), laid-full rs t k)

@@ -1,6 +1,8 @@
 // A table record and how it is written.
 ghost use mathlib.Core.Path.{_≡_};
-ghost use mathlib.Core.List.{[], _∷_};
+ghost use mathlib.Core.List.{[], _∷_, _++_};
+ghost use Prim.Native.Nat.{_≤_};
+ghost use lib.ListN.{length, take, drop};
 ghost use Rattle.tag.specs.Table.{laid};
 
 // 01, A table record: the kind, then seven words.
@@ -28,5 +30,17 @@ pub fn put(table: &mut [u32], r: Record)
         table[5] = r.w5;
         table[6] = r.w6;
         table[7] = r.w7;
+    }
+}
+
+// Copies the first n words of a table over those of another.
+pub fn copy(from: &[u32], n: usize, to: &mut [u32])
+    requires { ⌜ (n ≤ length (now from)) × (n ≤ length (now to)) ⌝ }
+    ensures { λ _. ⌜ now (to .exit) ≡ take n (now (from .entry)) ++ drop n (now (to .entry)) ⌝ }
+{
+    let mut i = 0;
+    while i < n {
+        to[i] = from[i];
+        i += 1;
     }
 }
