@@ -6,7 +6,7 @@ use mathlib.Core.Logic.{_⊎_, ⊎-elim}
 use Prim.Native.Nat.{ℕ, zero, suc, _+_, _-_, _*_, _^_, _≤_, _<_, min}
 use native.Mathlib.Omega.{arith}
 use native.Mathlib.Numerals.{add-one}
-use native.Mathlib.Nat.{le-refl, le-trans, le-mul-of-pos-right, min-eq-left, min-eq-right, min-le-right, mul-le-mul-right, pow-zero, pow-succ', pow-le-pow-right, mul-assoc, add-mul, one-mul, lt-of-lt-of-le, lt-of-le-of-lt, le-of-lt, add-le-add, mul-le-mul, mul-le-mul-left}
+use native.Mathlib.Nat.{le-refl, le-trans, le-mul-of-pos-right, min-eq-left, min-eq-right, min-le-right, mul-le-mul-right, pow-zero, pow-suc, pow-succ', pow-le-pow-right, mul-assoc, add-mul, one-mul, lt-of-lt-of-le, lt-of-le-of-lt, le-of-lt, add-le-add, mul-le-mul, mul-le-mul-left}
 use lib.ListN.{getD}
 use lib.Dec.{ltb, leb, lit<, lit≤}
 use lib.IntN.{pos, negℤ}
@@ -43,7 +43,7 @@ module _ (radix : ℕ) (s : List ℕ) where
   unfolding value
   value-end i e a h = rw (none i e h)
 
-  value-go : (i e a : ℕ) → i < e → value radix s (e - i) i a ≡ value radix s (e - (i + 1)) (i + 1) (a * radix + digitOf (getD s i 0))
+  pub value-go : (i e a : ℕ) → i < e → value radix s (e - i) i a ≡ value radix s (e - (i + 1)) (i + 1) (a * radix + digitOf (getD s i 0))
   unfolding value
   value-go i e a h = rw (more i e h)
 
@@ -210,9 +210,28 @@ module _ (s : List ℕ) (a b : ℕ) (d : Decimal) (q : d ≡ splitAt s a b) (n :
   pub digits-small : digitsOf s d < most
   digits-small = lt-of-lt-of-le digits-below (mul-le-mul-left 1000000000 (pow-le-pow-right (lit< tt) m))
 
-  -- none of it is capped
-  pub digits-are : (u v : ℕ) → u ≡ min most (value 10 s (d .whole - d .from) (d .from) 0) → v ≡ min most (value 10 s (d .end - d .fraction) (d .fraction) u) → v ≡ digitsOf s d
-  digits-are u v p r =
-      let l : value 10 s (d .whole - d .from) (d .from) 0 ≤ most = le-trans (le-of-lt whole-below) (lit≤ tt) in
-      let e : u ≡ value 10 s (d .whole - d .from) (d .from) 0 = p ∙ min-eq-right l in
-      rw (r, e) (min-eq-right (le-of-lt digits-small))
+-- what is no decimal digit
+pub no-digit-below : (b : ℕ) → b < 48 → isDigit b ≡ false
+no-digit-below b h = rw (← digit-below b h)
+
+ten-at-least : (b : ℕ) → 57 < b → 10 ≤ digitOf b
+ten-at-least b z =
+    ⊎-elim (λ (h : 103 ≤ b). rw (← digit-above b h) (omega arith))
+    (λ (h : b < 103). ⊎-elim (λ (k : 97 ≤ b). rw (← digit-lower b k (omega arith)) (omega arith))
+    (λ (k : b < 97). ⊎-elim (λ (l : 71 ≤ b). rw (← digit-middle b l k) (omega arith))
+    (λ (l : b < 71). ⊎-elim (λ (m : 65 ≤ b). rw (← digit-upper b m (omega arith)) (omega arith))
+    (λ (m : b < 65). rw (← digit-between b z m) (omega arith))
+    (le-or-lt 65 b)) (le-or-lt 71 b)) (le-or-lt 97 b)) (le-or-lt 103 b)
+
+pub no-digit-above : (b : ℕ) → 57 < b → isDigit b ≡ false
+no-digit-above b h = le-ltb (digitOf b) 10 (ten-at-least b h)
+
+pub digit-between-is : (b : ℕ) → 48 ≤ b → b ≤ 57 → isDigit b ≡ true
+digit-between-is b h k = rw (← digit-decimal b h k) (lt-ltb (b - 48) 10 (omega arith))
+
+-- one digit more of a run
+pub run-below : (start a d n : ℕ) → a < (start + 1) * 10 ^ n → d ≤ 9 → a * 10 + d < (start + 1) * 10 ^ (n + 1)
+run-below start a d n h k = rw (add-one n, pow-suc, ← mul-assoc (start + 1) (10 ^ n) 10) (omega arith)
+
+pub run-nine : (start n : ℕ) → n ≤ 9 → (start + 1) * 10 ^ n ≤ (start + 1) * 1000000000
+run-nine start n h = mul-le-mul-left (start + 1) (pow-le-pow-right (lit< tt) h)

@@ -1,9 +1,10 @@
 // Numbers as text writes them: numerals, whole numbers, hexadecimal.
 ghost use mathlib.Core.Path.{_≡_};
-ghost use Prim.Native.Nat.{_+_, _-_, _≤_, _<_, min};
+ghost use Prim.Native.Nat.{_+_, _-_, _*_, _≤_, _<_, min};
+ghost use Rattle.scan.specs.Scan.{spanTo, Place};
 ghost use lib.ListN.{length};
 ghost use lib.Ieee.{binary32, toBits};
-ghost use Rattle.numeral.specs.Numeral.{value as valueOf, most, wholeNumber, upTo, wordOfI32, i32At, hexAt, Split, exponentAt, floatOf, wordOfF32, f32Of, f32At};
+ghost use Rattle.numeral.specs.Numeral.{value as valueOf, isDigit, most, wholeNumber, upTo, wordOfI32, i32At, hexAt, Split, exponentAt, floatOf, wordOfF32, f32Of, f32At};
 
 // What a field holds: no number, a numeral that is too long with the place of its first byte, or the word of a number.
 pub enum Numeral {
@@ -108,20 +109,73 @@ pub fn hex_at(text: &[u8], a: usize, b: usize) -> Numeral
     )
 }
 
+// Decimal digits from a place on: where they end, and the number that they write behind a start if there are at most nine.
+pub struct Run {
+    pub end: usize,
+    pub value: u64,
+}
+
+// A numeral's digits and the number that they write.
+pub struct Written {
+    pub at: Decimal,
+    pub digits: u64,
+}
+
+// The end, or nine places on where that is nearer.
+fn nine_on(from: usize, to: usize) -> usize
+    requires { ⌜ from ≤ to ⌝ }
+    ensures { λ r. ⌜ r ≡ min to (from + 9) ⌝ }
+{
+    if to - from <= 9 { to } else { from + 9 }
+}
+
+// The digits from a place on, and the number that the first nine write behind `start`.
+fn run_at(text: &[u8], from: usize, to: usize, start: u64) -> Run
+    requires { ⌜ (from ≤ to) × (to ≤ length (now text)) × (start < 1000000000) ⌝ }
+    ensures { λ r. ⌜ Place from to (spanTo isDigit (now (text .entry)) from to) (r .end) × (r .value < (start + 1) * 1000000000) × (r .end - from ≤ 9 → r .value ≡ valueOf 10 (now (text .entry)) (r .end - from) from start) ⌝ }
+{
+    let stop = nine_on(from, to);
+    let mut i = from;
+    let mut a = start;
+    while i < stop {
+        let b = text[i];
+        if b < 48 {
+            return Run { end: i, value: a };
+        }
+        if b > 57 {
+            return Run { end: i, value: a };
+        }
+        a = a * 10 + wide(b - 48);
+        i += 1;
+    }
+    if i < to {
+        return Run {
+            end: scan::span(text, scan::Class::Digit(10), i, to),
+            value: a,
+        };
+    }
+    Run { end: i, value: a }
+}
+
 // The digits of a numeral that starts at a.
-fn decimal_at(text: &[u8], a: usize, b: usize) -> Decimal
+fn decimal_at(text: &[u8], a: usize, b: usize) -> Written
     requires { ⌜ (a ≤ b) × (b ≤ length (now text)) ⌝ }
-    ensures { λ r. ⌜ Split (now (text .entry)) a b r ⌝ }
+    ensures { λ r. ⌜ Split (now (text .entry)) a b (r .at) × (r .at .whole - r .at .from ≤ 9 → r .at .end - r .at .fraction ≤ 9 → r .digits ≡ valueOf 10 (now (text .entry)) (r .at .end - r .at .fraction) (r .at .fraction) (valueOf 10 (now (text .entry)) (r .at .whole - r .at .from) (r .at .from) 0)) ⌝ }
 {
     let from = scan::past(text, scan::Class::Either(43, 45), a, b);
-    let whole = scan::span(text, scan::Class::Digit(10), from, b);
+    let w = run_at(text, from, b, 0);
+    let whole = w.end;
     let fraction = scan::past(text, scan::Class::Is(46), whole, b);
-    let end = scan::span(text, scan::Class::Digit(10), fraction, b);
-    Decimal {
+    let f = run_at(text, fraction, b, w.value);
+    let at = Decimal {
         from,
         whole,
         fraction,
-        end,
+        end: f.end,
+    };
+    Written {
+        at,
+        digits: f.value,
     }
 }
 
@@ -141,18 +195,11 @@ fn exponent_at(text: &[u8], i: usize, b: usize) -> bool
 }
 
 // The word of a numeral that starts at a.
-fn decimal_word(text: &[u8], a: usize, b: usize, d: Decimal) -> u32
-    requires { ⌜ (a ≤ b) × (b ≤ length (now text)) × Split (now text) a b d × (d .whole - d .from ≤ 9) × (d .end - d .fraction ≤ 9) ⌝ }
+fn decimal_word(text: &[u8], a: usize, b: usize, d: Decimal, digits: u64) -> u32
+    requires { ⌜ (a ≤ b) × (b ≤ length (now text)) × Split (now text) a b d × (d .whole - d .from ≤ 9) × (d .end - d .fraction ≤ 9) × (digits ≡ valueOf 10 (now text) (d .end - d .fraction) (d .fraction) (valueOf 10 (now text) (d .whole - d .from) (d .from) 0)) ⌝ }
     ensures { λ r. ⌜ r ≡ toBits binary32 (floatOf (now (text .entry)) a b d) ⌝ }
 {
     let negative = a < scan::past(text, scan::Class::Is(45), a, b);
-    let digits = value(
-        text,
-        10,
-        d.fraction,
-        d.end,
-        value(text, 10, d.from, d.whole, 0),
-    );
     decimal::decimal_word(negative, digits, (d.end - d.fraction) as u32)
 }
 
@@ -161,7 +208,8 @@ fn f32_of(text: &[u8], a: usize, b: usize) -> Numeral
     requires { ⌜ (a ≤ b) × (b ≤ length (now text)) ⌝ }
     ensures { λ r. ⌜ r ≡ wordOfF32 (f32Of (now (text .entry)) a b) ⌝ }
 {
-    let d = decimal_at(text, a, b);
+    let w = decimal_at(text, a, b);
+    let d = w.at;
     if d.whole - d.from + (d.end - d.fraction) == 0 {
         return Numeral::No;
     }
@@ -177,7 +225,7 @@ fn f32_of(text: &[u8], a: usize, b: usize) -> Numeral
     if d.end - d.fraction > 9 {
         return Numeral::TooLong(a);
     }
-    Numeral::Word(decimal_word(text, a, b, d))
+    Numeral::Word(decimal_word(text, a, b, d, w.digits))
 }
 
 // A numeral of 01, blanks around it dropped: the bits of its f32.

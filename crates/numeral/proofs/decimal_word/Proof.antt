@@ -1,17 +1,11 @@
 use Rattle.numeral.specs.Numeral.{floatOf}
-use Rattle.numeral.proofs.Laws.{digits-are, digits-small}
+use Rattle.numeral.proofs.Laws.{digits-small}
 use borrow.Author.Needs.{needs}
 use Rattle.numeral.proofs.decimal_word.Statement.{statement}
 use Rattle.numeral.proofs.decimal_word.Tie as tie
 
 past-requires : tie.Need-past-requires
 past-requires c κs = search needs
-
-value-requires : tie.Need-value-requires
-value-requires c κs = search needs
-
-value-requires-2 : tie.Need-value-requires-2
-value-requires-2 c κs = search needs
 
 sub-decimal-word : tie.Need-sub-decimal-word
 sub-decimal-word c = search needs
@@ -21,25 +15,16 @@ cast-decimal-word c = search needs
 
 decimal-word-requires : tie.Need-decimal-word-requires
 decimal-word-requires c κs =
-    let p = c .before .before .before .before .before .pre in
-    let e = digits-are _ _ _ _ (p .2 .is) (p .3) (p .4) _ _ (c .before .before .value .ensures) (c .before .value2 .ensures) in
-    (rw e (digits-small _ _ _ _ (p .2 .is) (p .3) (p .4)), p .4)
+    let p = c .before .before .before .pre in
+    (rw (p .5) (digits-small _ _ _ _ (p .2 .is) (p .3) (p .4)), p .4)
 
 returns : tie.Need-returns
 unfolding floatOf
 returns c =
-    let p = c .before .before .before .before .before .before .pre in
-    let e = digits-are _ _ _ _ (p .2 .is) (p .3) (p .4) _ _ (c .before .before .before .value .ensures) (c .before .before .value2 .ensures) in
-    rw (c .decimal-word .ensures, e, c .before .before .before .before .past .ensures .is)
+    let p = c .before .before .before .before .pre in
+    rw (c .decimal-word .ensures, p .5, c .before .before .past .ensures .is)
 
 pub decimal-word-spec : {M : Type 1} → statement M
 decimal-word-spec =
     tie.close
-    (tie.spec
-    past-requires
-    value-requires
-    value-requires-2
-    sub-decimal-word
-    cast-decimal-word
-    decimal-word-requires
-    returns)
+    (tie.spec past-requires sub-decimal-word cast-decimal-word decimal-word-requires returns)
