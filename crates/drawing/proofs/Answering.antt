@@ -1,17 +1,19 @@
 -- From turns to a drawing, and from a drawing to the answer.
-use mathlib.Core.Path.{_≡_, refl, sym, subst, _∙_}
-use mathlib.Core.List.{List, [], _∷_, _++_}
+use mathlib.Core.Path.{_≡_, sym, subst, _∙_}
+use mathlib.Core.List.{List, _++_}
 use mathlib.Core.Bool.{false}
 use mathlib.Core.Logic.{⊎-elim}
-use Prim.Native.Nat.{ℕ, _+_, _-_, _/_, _≤_, _<_, min}
+use Prim.Native.Nat.{ℕ, _*_, _/_, _≤_, _<_, min}
 use native.Mathlib.Omega.{arith}
 use lib.Ieee.{Float}
-use lib.ListN.{length}
+use lib.ListN.{length, take, drop}
 use borrow.Author.Tests.{lt-ltb, le-ltb}
 use Rattle.scan.proofs.Laws.{le-or-lt}
 use Rattle.refusal.specs.declared.Refusal.{Refusal}
-use Rattle.refusal.specs.declared.Refusal.the-variants.{TextTooLong, ScaleTooLarge, NoRoom}
+use Rattle.refusal.specs.declared.Refusal.the-variants.{ScaleTooLarge, NoRoom}
 use Rattle.tag.specs.declared.Record.{Record}
+use Rattle.tag.specs.Table.{laid}
+use Rattle.tag.proofs.Table.{laid-copied}
 use Rattle.drawing.specs.declared.Token.{Token}
 use Rattle.drawing.specs.declared.Pen.{Pen}
 use Rattle.drawing.specs.declared.Stand.{Stand}
@@ -21,9 +23,9 @@ use Rattle.refusal.specs.declared.Checked.the-variants.{Good, Bad}
 use Rattle.drawing.specs.declared.Drawing.the-variants.{Drawn, Refused}
 use Rattle.drawing.specs.Tokens.{from}
 use Rattle.drawing.specs.Drawing.{scaleOf, settled, continues, command, commandOf, letterTurn, turnOf, Turn, draw, Emits, Turns}
-use Rattle.drawing.specs.Answer.{tokensGround, exponentGround, unless, ground, drawing, answer, after, Answered}
+use Rattle.drawing.specs.Answer.{tokensGround, unless, ground, drawing, answer, after, Answered}
 use Rattle.refusal.specs.Refusal.{textGround}
-use Rattle.drawing.proofs.Emitting.{emits-all, emits-join, emits-length}
+use Rattle.drawing.proofs.Emitting.{emits-all, emits-join}
 use Rattle.drawing.proofs.Machine.{left, left-turn}
 use Rattle.drawing.proofs.Turning.{NextIs}
 
@@ -48,90 +50,57 @@ going-on {s} {t} {u} {v} {n} {m} {i} {j} {l} {r} k pen x h w e =
     let b : Emits u (r .n) (left k (g .pen) (g .rest)) m v = subst (λ (y : List Token). Emits u (r .n) (left k (g .pen) y) m v) (w .rest) a in
     subst (λ (y : List Record). Emits t n y m v) (sym (left-turn k pen x (from s i) (from s j) (h .is))) (emits-join (w .emits) b)
 
--- ---- the grounds
-
-module _ (s : List ℕ) (x : ℕ) where
-  pub ground-1 : {c : Checked} {r : Refusal} → c ≡ textGround s → c ≡ Bad r → c ≡ ground s x
-  unfolding ground
-  ground-1 e q = q ∙ rw (sym e ∙ q)
-
-  pub ground-3 : {c d : Checked} {r : Refusal} → c ≡ textGround s → c ≡ Good → d ≡ tokensGround (from s 0) → d ≡ Bad r → d ≡ ground s x
-  unfolding ground
-  ground-3 e q f p = p ∙ rw (sym e ∙ q, sym f ∙ p)
-
-  pub ground-7 : {c d : Checked} → c ≡ textGround s → c ≡ Good → d ≡ tokensGround (from s 0) → d ≡ Good → 32 < x → Bad ScaleTooLarge ≡ ground s x
-  unfolding ground
-  ground-7 e q f p h = rw (sym e ∙ q, sym f ∙ p, lt-ltb 32 x h)
-
-  pub ground-none : {c d : Checked} → c ≡ textGround s → c ≡ Good → d ≡ tokensGround (from s 0) → d ≡ Good → x ≤ 32 → Good ≡ ground s x
-  unfolding ground
-  ground-none e q f p h = rw (sym e ∙ q, sym f ∙ p, le-ltb 32 x h)
-
-  -- no ground: the text is short
-  pub short-text : {c : Checked} → c ≡ ground s x → c ≡ Good → length s ≤ 12288
-  unfolding ground textGround
-  short-text e q =
-      ⊎-elim
-      (λ (h : length s ≤ 12288). h)
-      (λ (h : 12288 < length s).
-      let g : ground s x ≡ Bad TextTooLong = rw (lt-ltb 12288 (length s) h) in
-      absurd (let z : _≡_ {A = ℕ} 0 1 = cc in omega arith))
-      (le-or-lt (length s) 12288)
-
-  -- and the exponent small
-  pub small-exponent : {c : Checked} → c ≡ ground s x → c ≡ Good → x ≤ 32
-  unfolding ground
-  small-exponent e q =
-      ⊎-elim
-      (λ (h : x ≤ 32). h)
-      (λ (h : 32 < x).
-      let b : exponentGround x ≡ Bad ScaleTooLarge = rw (lt-ltb 32 x h) in
-      absurd (never (textGround s) (tokensGround (from s 0)) (rw (← b) (sym e ∙ q))))
-      (le-or-lt x 32)
-    where
-      never : (a b : Checked) → unless a (unless b (Bad ScaleTooLarge)) ≡ Good → ⊥
-      never Good Good p = let z : _≡_ {A = ℕ} 0 1 = cc in omega arith
-      never Good (Bad r) p = let z : _≡_ {A = ℕ} 0 1 = cc in omega arith
-      never (Bad r) b p = let z : _≡_ {A = ℕ} 0 1 = cc in omega arith
-
 -- ---- the answer
 
--- after the run on no table, the lent path is as it was
-pub dry : {t u : List ℕ} {n : ℕ} {cs : List Record} → Emits [] 0 cs n u → u ++ t ≡ t
-dry {t} {u} e = go u (emits-length e)
-  where
-    go : (u : List ℕ) → length u ≡ 0 → u ++ t ≡ t
-    go [] h = refl
-    go (x ∷ u) h = absurd (omega arith)
+-- a text with no ground 1 is short
+pub short-text : (s : List ℕ) → textGround s ≡ Good → length s ≤ 12288
+unfolding textGround
+short-text s e =
+    ⊎-elim
+    (λ (h : length s ≤ 12288). h)
+    (λ (h : 12288 < length s). absurd (let z : _≡_ {A = ℕ} 0 1 = cc (rw (lt-ltb 12288 (length s) h) at e) in omega arith))
+    (le-or-lt (length s) 12288)
 
-module _ (s t : List ℕ) (x : ℕ) {c : Checked} (e : c ≡ ground s x) where
-  pub answered-bad : {r : Refusal} → c ≡ Bad r → Answered s x t (Refused r) t
-  unfolding answer after
-  answered-bad q =
-      let g = sym e ∙ q in
-      record { drawing = rw g; path = rw g }
+-- n commands have room in the scratch path, of w words before the run and v after it, and in one of t words
+pub room : (n m l w v t : ℕ) → n ≤ m → m ≡ min (t / 8) 1024 → n ≤ 2 * l → v ≡ w → 8 * min (2 * l) 1024 ≤ w → (8 * n ≤ w) × (8 * n ≤ v) × (8 * n ≤ t)
+room n m l w v t a b c d e = (omega arith, omega arith, omega arith)
 
-  -- v is the path table after the run on no table
-  module _ (q : c ≡ Good) {k : Float} (f : k ≡ scaleOf x) {n m : ℕ} {v : List ℕ} (h : n ≡ 0 + length (draw k (from s 0))) (p : v ≡ t) (w : m ≡ min (length v / 8) 1024) where
-    counted : n ≡ length (drawing s x)
-    counted = h ∙ rw f (omega arith)
+module _ (s t : List ℕ) (x : ℕ) where
+  pub answered-text : {r : Refusal} → textGround s ≡ Bad r → Answered s x t (Refused r) t
+  unfolding ground answer after
+  answered-text e = record { drawing = rw e; path = rw e }
 
-    room : m ≡ min (length t / 8) 1024
-    room = w ∙ rw p
+  module _ (good : textGround s ≡ Good) where
+    pub answered-large : {r : Refusal} → 32 < x → unless (tokensGround (from s 0)) (Bad ScaleTooLarge) ≡ Bad r → Answered s x t (Refused r) t
+    unfolding ground answer after
+    answered-large h e = record { drawing = rw (good, lt-ltb 32 x h, e); path = rw (good, lt-ltb 32 x h, e) }
 
-    pub answered-full : m < n → Answered s x t (Refused (NoRoom n)) v
-    unfolding answer after
-    answered-full l =
-        let g = sym e ∙ q in
-        let d : min (length t / 8) 1024 < length (drawing s x) = rw (← counted, ← room) l in
-        let y = lt-ltb (min (length t / 8) 1024) (length (drawing s x)) d in
-        record { drawing = rw (g, y, counted); path = rw (g, y) p }
+    module _ (l : x ≤ 32) where
+      pub answered-token : {c : Checked} {r : Refusal} → c ≡ tokensGround (from s 0) → c ≡ Bad r → Answered s x t (Refused r) t
+      unfolding ground answer after
+      answered-token e q = let g = sym e ∙ q in record { drawing = rw (good, g); path = rw (good, g) }
 
-    pub answered-drawn : {u : List ℕ} {o : ℕ} → n ≤ m → Emits v 0 (draw k (from s 0)) o u → Answered s x t (Drawn n) u
-    unfolding answer after
-    answered-drawn {u} {o} l z =
-        let g = sym e ∙ q in
-        let d : length (drawing s x) ≤ min (length t / 8) 1024 = rw (← counted, ← room) l in
-        let y = le-ltb (min (length t / 8) 1024) (length (drawing s x)) d in
-        let a : Emits t 0 (drawing s x) o u = rw (p, f) at z in
-        record { drawing = rw (g, y, counted); path = rw (g, y) (emits-all a) }
+      -- w is the scratch path before the run, v after it
+      module _ {c : Checked} (e : c ≡ tokensGround (from s 0)) (q : c ≡ Good) {k : Float} (f : k ≡ scaleOf x) {n m : ℕ} {w v : List ℕ}
+          (z : c ≡ Good → Emits w 0 (draw k (from s 0)) n v) (p : m ≡ min (length t / 8) 1024) where
+        is-good : ground s x ≡ Good
+        unfolding ground
+        is-good = let g = sym e ∙ q in rw (good, g, le-ltb 32 x l)
+
+        counted : n ≡ length (drawing s x)
+        counted = z q .count ∙ rw f (omega arith)
+
+        pub answered-full : m < n → Answered s x t (Refused (NoRoom n)) t
+        unfolding answer after
+        answered-full h =
+            let d : min (length t / 8) 1024 < length (drawing s x) = rw (← counted, ← p) h in
+            let y = lt-ltb (min (length t / 8) 1024) (length (drawing s x)) d in
+            record { drawing = rw (is-good, y, counted); path = rw (is-good, y) }
+
+        pub answered-drawn : n ≤ m → 8 * n ≤ length w → 8 * n ≤ length t → Answered s x t (Drawn n) (take (8 * n) v ++ drop (8 * n) t)
+        unfolding answer after
+        answered-drawn h a b =
+            let d : length (drawing s x) ≤ min (length t / 8) 1024 = rw (← counted, ← p) h in
+            let y = le-ltb (min (length t / 8) 1024) (length (drawing s x)) d in
+            let o : v ≡ laid w (drawing s x) = emits-all (z q) ∙ rw f in
+            record { drawing = rw (is-good, y, counted); path = rw (is-good, y, o, counted) (laid-copied (drawing s x) w t (rw counted at a) (rw counted at b)) }

@@ -5,3 +5,4 @@ pub mod Turning
 pub mod Answering
 pub mod Within
 pub mod Finite
+pub mod Grounds

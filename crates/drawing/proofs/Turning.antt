@@ -31,7 +31,7 @@ use Rattle.drawing.specs.declared.OnePoint.the-variants.{No as NoPoint, 
 use Rattle.drawing.specs.declared.ThreePoints.{ThreePoints}
 use Rattle.drawing.specs.declared.ThreePoints.the-variants.{No as NoThree, At as ThreeAt}
 use Rattle.drawing.specs.Tokens.{isLetter, from, untilLetter, Follows}
-use Rattle.drawing.specs.Drawing.{f0, f1, f2, f4, scaleOf, bez, spanEnd, spanOf, bareBy, bareTurn, none1, point, scaled, second, readPoint, thirdOf, secondOf, moveTo, cubicTo, closed, turned, penOf, onPoint, settled, pointed, curve, movesTo, Emits, ReadsPoint, ReadsThree, Stroked, Turns}
+use Rattle.drawing.specs.Drawing.{f0, f1, f2, f4, scaleOf, bez, spanEnd, spanOf, bareBy, bareTurn, none1, point, scaled, second, readPoint, thirdOf, secondOf, moveTo, cubicTo, closed, turned, penOf, onPoint, settled, pointed, curve, movesTo, read1, Behind1, Emits, ReadsPoint, ReadsThree, Stroked, Turns}
 use Rattle.drawing.specs.Answer.{tokensGround}
 use Rattle.drawing.proofs.Emitting.{emits-none, emits-join}
 
@@ -99,27 +99,36 @@ module _ {s : List ℕ} {i : ℕ} where
 
 -- ---- points
 
+-- what a token t and those from j on say of a point, which ends behind j
+abbrev pub Point-from : List ℕ → Float → Token → ℕ → OnePoint → Type 0
+Point-from s k t j r = (readPoint k (t ∷ from s j) ≡ read1 s r) × Behind1 j (length s) r
+
+module _ (s : List ℕ) (t : Token) (j : ℕ) (k : Float) where
+  pub from-other : OneOf (0 ∷ 2 ∷ 3 ∷ []) (tagOf the-type t) → Point-from s k t j NoPoint
+  from-other h = (no-number t k (from s j) h, tt)
+
+  first-number : (x : Float) → t ≡ Number x → readPoint k (t ∷ from s j) ≡ second k x (from s j)
+  first-number x q = ap (λ (u : Token). readPoint k (u ∷ from s j)) q
+
+  pub from-half : {r : Next} (x : Float) → t ≡ Number x → Follows s j r → r ≡ End → Point-from s k t j NoPoint
+  from-half x q f e = (first-number x q ∙ ap (second k x) (next-end f e), tt)
+
+  pub from-broken : {u : Token} {l : ℕ} (x : Float) → t ≡ Number x → NextIs s j u l → OneOf (0 ∷ 2 ∷ 3 ∷ []) (tagOf the-type u) → Point-from s k t j NoPoint
+  from-broken {u} {l} x q m h = (first-number x q ∙ ap (second k x) (m .is) ∙ no-second u k x (from s l) h, tt)
+
+  pub from-whole : {u : Token} {l : ℕ} (x y : Float) → t ≡ Number x → NextIs s j u l → u ≡ Number y → Point-from s k t j (PointAt (scaled k x y) l)
+  from-whole {u} {l} x y q m e = (first-number x q ∙ ap (second k x) (m .is ∙ ap (λ (v : Token). v ∷ from s l) e), (m .low, m .high))
+
+nearer : (s : List ℕ) (i j : ℕ) (r : OnePoint) → i < j → Behind1 j (length s) r → Behind1 i (length s) r
+nearer s i j NoPoint h b = tt
+nearer s i j (PointAt p l) h b = let c = b .0 in (omega arith, b .1)
+
 module _ {s : List ℕ} {i : ℕ} (k : Float) where
   pub point-end : {r : Next} → Follows s i r → r ≡ End → ReadsPoint s k i NoPoint
   point-end f q = record { is = ap (readPoint k) (next-end f q); place = tt }
 
-  pub point-other : {t : Token} {j : ℕ} → NextIs s i t j → OneOf (0 ∷ 2 ∷ 3 ∷ []) (tagOf the-type t) → ReadsPoint s k i NoPoint
-  point-other {t} {j} n h = record { is = ap (readPoint k) (n .is) ∙ no-number t k (from s j) h; place = tt }
-
-  first-number : {t : Token} {j : ℕ} (x : Float) → NextIs s i t j → t ≡ Number x → readPoint k (from s i) ≡ second k x (from s j)
-  first-number {t} {j} x n q = ap (readPoint k) (n .is ∙ ap (λ (u : Token). u ∷ from s j) q)
-
-  pub point-half : {t : Token} {j : ℕ} {r : Next} (x : Float) → NextIs s i t j → t ≡ Number x → Follows s j r → r ≡ End → ReadsPoint s k i NoPoint
-  point-half x n q f e = record { is = first-number x n q ∙ ap (second k x) (next-end f e); place = tt }
-
-  pub point-broken : {t u : Token} {j l : ℕ} (x : Float) → NextIs s i t j → t ≡ Number x → NextIs s j u l → OneOf (0 ∷ 2 ∷ 3 ∷ []) (tagOf the-type u) → ReadsPoint s k i NoPoint
-  point-broken {t} {u} {j} {l} x n q m h = record { is = first-number x n q ∙ ap (second k x) (m .is) ∙ no-second u k x (from s l) h; place = tt }
-
-  pub point-whole : {t u : Token} {j l : ℕ} (x y : Float) → NextIs s i t j → t ≡ Number x → NextIs s j u l → u ≡ Number y → ReadsPoint s k i (PointAt (scaled k x y) l)
-  point-whole {t} {u} {j} {l} x y n q m e =
-      let a = n .low in
-      let b = m .low in
-      record { is = first-number x n q ∙ ap (second k x) (m .is ∙ ap (λ (v : Token). v ∷ from s l) e); place = (omega arith, m .high) }
+  pub point-from : {t : Token} {j : ℕ} {r : OnePoint} → NextIs s i t j → Point-from s k t j r → ReadsPoint s k i r
+  point-from {t} {j} {r} n f = record { is = ap (readPoint k) (n .is) ∙ f .0; place = nearer s i j r (n .low) (f .1) }
 
 pub record PointIs (s : List ℕ) (k : Float) (i : ℕ) (p : Point) (j : ℕ) : Type 0 where
   pub is : readPoint k (from s i) ≡ point p (from s j)

@@ -2,12 +2,17 @@
 ghost use mathlib.Core.Path.{_≡_};
 ghost use mathlib.Core.List.{[], _∷_};
 ghost use mathlib.Core.Bool.{false};
-ghost use Prim.Native.Nat.{_+_, _-_, _≤_, _<_, min};
+ghost use Prim.Native.Nat.{_+_, _-_, _*_, _≤_, _<_, min};
 ghost use lib.ListN.{length};
 ghost use Rattle.scan.specs.Scan.{pick};
-ghost use Rattle.drawing.specs.Tokens.{oneLetter, lower as lowerOf, spells as spellsAt, special as specialAt, tokenEnd, tokenOf, Follows, from as tokensFrom, Skips};
-ghost use Rattle.drawing.specs.Drawing.{bez as bezOf, spanOf, moveTo, lineTo, cubicTo, closed, scaleOf, commandOf, Emits, ReadsPoint, ReadsThree, Stroked, spanGives, splinePoint, standAt, onPoint, settled as settledPen, Turns, continues as continuesAt, letterTurn, bareTurn, turnOf, curve, pointed, command as commandTurn, movesTo, draw as drawOf};
-ghost use Rattle.drawing.specs.Answer.{tokensGround, ground, Answered};
+ghost use Rattle.drawing.specs.Tokens.{oneLetter, lower as lowerOf, spells as spellsAt, special as specialAt, tokenEnd, tokenOf, Follows, from as tokensFrom, untilLetter, Skips};
+ghost use Rattle.drawing.specs.Drawing.{readPoint, read1, Behind1, bez as bezOf, spanOf, moveTo, lineTo, cubicTo, closed, scaleOf, commandOf, Emits, ReadsPoint, ReadsThree, Stroked, spanGives, splinePoint, standAt, onPoint, settled as settledPen, Turns, continues as continuesAt, letterTurn, bareTurn, turnOf, curve, pointed, command as commandTurn, movesTo, draw as drawOf};
+ghost use Rattle.drawing.specs.Answer.{tokensGround, unless, Answered};
+ghost use Rattle.refusal.specs.Refusal.{textGround};
+ghost use Rattle.refusal.specs.declared.Checked.the-variants.{Good, Bad};
+ghost use Rattle.refusal.specs.declared.Refusal.the-variants.{ScaleTooLarge};
+ghost use Rattle.drawing.specs.declared.Pen.{Pen as PenType};
+ghost use lib.Ieee.{Float};
 
 // A token: a single ASCII letter, a number, a numeral that is refused with the place of its first byte, or anything else.
 pub enum Token {
@@ -207,15 +212,11 @@ fn next_token(text: &[u8], i: usize) -> Next
     Next::Is(token_of(text, a, b), b)
 }
 
-// A point, multiplied by the scale, as Rust's `read_point` has it.
-fn read_point(text: &[u8], i: usize, scale: f32) -> OnePoint
-    requires { ⌜ i ≤ length (now text) ⌝ }
-    ensures { λ r. ⌜ ReadsPoint (now (text .entry)) scale i r ⌝ }
+// The point whose first token is t, which ends at k, multiplied by the scale, as Rust's `read_point` has it.
+fn point_from(text: &[u8], t: Token, k: usize, scale: f32) -> OnePoint
+    requires { ⌜ k ≤ length (now text) ⌝ }
+    ensures { λ r. ⌜ (readPoint scale (t ∷ tokensFrom (now (text .entry)) k) ≡ read1 (now (text .entry)) r) × Behind1 k (length (now (text .entry))) r ⌝ }
 {
-    let first = next_token(text, i);
-    let Next::Is(t, k) = first else {
-        return OnePoint::No;
-    };
     let Token::Number(x) = t else {
         return OnePoint::No;
     };
@@ -235,12 +236,24 @@ fn read_point(text: &[u8], i: usize, scale: f32) -> OnePoint
     )
 }
 
-// As Rust's `read_three_points`.
-fn read_three_points(text: &[u8], i: usize, scale: f32) -> ThreePoints
+// The point from i on.
+fn read_point(text: &[u8], i: usize, scale: f32) -> OnePoint
     requires { ⌜ i ≤ length (now text) ⌝ }
+    ensures { λ r. ⌜ ReadsPoint (now (text .entry)) scale i r ⌝ }
+{
+    let first = next_token(text, i);
+    let Next::Is(t, k) = first else {
+        return OnePoint::No;
+    };
+    point_from(text, t, k, scale)
+}
+
+// As Rust's `read_three_points`, from the token t on, which begins at i and ends at k.
+fn read_three_points(text: &[u8], t: Token, i: usize, k: usize, scale: f32) -> ThreePoints
+    requires { ⌜ (i < k) × (k ≤ length (now text)) × (tokensFrom (now text) i ≡ t ∷ tokensFrom (now text) k) ⌝ }
     ensures { λ r. ⌜ ReadsThree (now (text .entry)) scale i r ⌝ }
 {
-    let first = read_point(text, i, scale);
+    let first = point_from(text, t, k, scale);
     let OnePoint::At(p, i1) = first else {
         return ThreePoints::No;
     };
@@ -638,6 +651,7 @@ fn letter_turn(
 // A cubic from i on, where the token that ends at k stands.
 fn curve_turn(
     text: &[u8],
+    t: Token,
     i: usize,
     k: usize,
     scale: f32,
@@ -645,10 +659,10 @@ fn curve_turn(
     n: usize,
     path: &mut [u32],
 ) -> Stand
-    requires { ⌜ (i < k) × (k ≤ length (now text)) × (n < 65000) ⌝ }
+    requires { ⌜ (i < k) × (k ≤ length (now text)) × (n < 65000) × (tokensFrom (now text) i ≡ t ∷ tokensFrom (now text) k) ⌝ }
     ensures { λ r. ⌜ Turns (now (text .entry)) (now (path .entry)) n (curve scale pen (tokensFrom (now (text .entry)) i) (tokensFrom (now (text .entry)) k)) (i + 1) r (now (path .exit)) ⌝ }
 {
-    let read = read_three_points(text, i, scale);
+    let read = read_three_points(text, t, i, k, scale);
     let ThreePoints::At(p, q, r, next) = read else {
         return Stand { pen, n, next: k };
     };
@@ -667,6 +681,7 @@ fn curve_turn(
 // A point from i on, where the token that ends at k stands.
 fn point_turn(
     text: &[u8],
+    t: Token,
     i: usize,
     k: usize,
     scale: f32,
@@ -674,10 +689,10 @@ fn point_turn(
     n: usize,
     path: &mut [u32],
 ) -> Stand
-    requires { ⌜ (i < k) × (k ≤ length (now text)) × (n < 65000) ⌝ }
+    requires { ⌜ (i < k) × (k ≤ length (now text)) × (n < 65000) × (tokensFrom (now text) i ≡ t ∷ tokensFrom (now text) k) ⌝ }
     ensures { λ r. ⌜ Turns (now (text .entry)) (now (path .entry)) n (pointed scale pen (tokensFrom (now (text .entry)) i) (tokensFrom (now (text .entry)) k)) (i + 1) r (now (path .exit)) ⌝ }
 {
-    let read = read_point(text, i, scale);
+    let read = point_from(text, t, k, scale);
     let OnePoint::At(p, next) = read else {
         return Stand {
             pen: settled(pen),
@@ -697,6 +712,7 @@ fn point_turn(
 // A token from i on, up to k, that is no letter.
 fn bare_turn(
     text: &[u8],
+    t: Token,
     i: usize,
     k: usize,
     scale: f32,
@@ -704,15 +720,15 @@ fn bare_turn(
     n: usize,
     path: &mut [u32],
 ) -> Stand
-    requires { ⌜ (i < k) × (k ≤ length (now text)) × (n < 65000) ⌝ }
+    requires { ⌜ (i < k) × (k ≤ length (now text)) × (n < 65000) × (tokensFrom (now text) i ≡ t ∷ tokensFrom (now text) k) ⌝ }
     ensures { λ r. ⌜ Turns (now (text .entry)) (now (path .entry)) n (bareTurn scale pen (tokensFrom (now (text .entry)) i) (tokensFrom (now (text .entry)) k)) (i + 1) r (now (path .exit)) ⌝ }
 {
     let mode = pen.mode;
     match mode {
         Mode::Idle => Stand { pen, n, next: k },
-        Mode::Lines => point_turn(text, i, k, scale, pen, n, path),
-        Mode::Cubics => curve_turn(text, i, k, scale, pen, n, path),
-        Mode::Spline(_) => point_turn(text, i, k, scale, pen, n, path),
+        Mode::Lines => point_turn(text, t, i, k, scale, pen, n, path),
+        Mode::Cubics => curve_turn(text, t, i, k, scale, pen, n, path),
+        Mode::Spline(_) => point_turn(text, t, i, k, scale, pen, n, path),
     }
 }
 
@@ -727,21 +743,69 @@ fn turn(
     n: usize,
     path: &mut [u32],
 ) -> Stand
-    requires { ⌜ (i < k) × (k ≤ length (now text)) × (n < 65000) ⌝ }
+    requires { ⌜ (i < k) × (k ≤ length (now text)) × (n < 65000) × (tokensFrom (now text) i ≡ t ∷ tokensFrom (now text) k) ⌝ }
     ensures { λ r. ⌜ Turns (now (text .entry)) (now (path .entry)) n (turnOf t scale pen (tokensFrom (now (text .entry)) i) (tokensFrom (now (text .entry)) k)) (i + 1) r (now (path .exit)) ⌝ }
 {
     match t {
         Token::Letter(b) => letter_turn(text, b, k, scale, pen, n, path),
-        Token::Number(_) => bare_turn(text, i, k, scale, pen, n, path),
-        Token::Refused(_) => bare_turn(text, i, k, scale, pen, n, path),
-        Token::Other => bare_turn(text, i, k, scale, pen, n, path),
+        Token::Number(_) => bare_turn(text, t, i, k, scale, pen, n, path),
+        Token::Refused(_) => bare_turn(text, t, i, k, scale, pen, n, path),
+        Token::Other => bare_turn(text, t, i, k, scale, pen, n, path),
     }
 }
 
-// The whole drawing, into the path: how many commands it has.
-fn draw(text: &[u8], scale: f32, path: &mut [u32]) -> usize
+// Ground 3 in the tail of an unknown command, up to the next letter.
+fn tail_ground(text: &[u8], i: usize) -> refusal::Checked
+    requires { ⌜ i ≤ length (now text) ⌝ }
+    ensures { λ r. ⌜ tokensGround (tokensFrom (now (text .entry)) i) ≡ unless r (tokensGround (untilLetter (tokensFrom (now (text .entry)) i))) ⌝ }
+{
+    let mut at = i;
+    loop {
+        let next = next_token(text, at);
+        match next {
+            Next::End => return refusal::Checked::Good,
+            Next::Is(t, k) => {
+                if is_letter(t) {
+                    return refusal::Checked::Good;
+                }
+                if let Token::Refused(p) = t {
+                    return refusal::Checked::Bad(refusal::Refusal::NumeralTooLong(p));
+                }
+                at = k;
+            }
+        }
+    }
+}
+
+// Ground 3 in what one turn passes over: the token t, which ends at k, and what it takes with it.
+fn turn_ground(text: &[u8], t: Token, k: usize) -> refusal::Checked
+    requires { ⌜ k ≤ length (now text) ⌝ }
+    ensures { λ r. ⌜ ((scale : Float) (pen : PenType) → tokensGround (t ∷ tokensFrom (now (text .entry)) k) ≡ unless r (tokensGround (turnOf t scale pen (t ∷ tokensFrom (now (text .entry)) k) (tokensFrom (now (text .entry)) k) .rest))) ⌝ }
+{
+    match t {
+        Token::Letter(b) => {
+            let c = command_of(b);
+            if let Command::Unknown = c {
+                return tail_ground(text, k);
+            }
+            refusal::Checked::Good
+        }
+        Token::Number(_) => refusal::Checked::Good,
+        Token::Refused(p) => refusal::Checked::Bad(refusal::Refusal::NumeralTooLong(p)),
+        Token::Other => refusal::Checked::Good,
+    }
+}
+
+// Ground 3, and how many commands a drawing has where it does not stand.
+pub struct Traced {
+    pub ground: refusal::Checked,
+    pub n: usize,
+}
+
+// The whole drawing, into the path.
+fn draw(text: &[u8], scale: f32, path: &mut [u32]) -> Traced
     requires { ⌜ length (now text) ≤ 12288 ⌝ }
-    ensures { λ m. ⌜ Emits (now (path .entry)) 0 (drawOf scale (tokensFrom (now (text .entry)) 0)) m (now (path .exit)) ⌝ }
+    ensures { λ r. ⌜ (r .ground ≡ tokensGround (tokensFrom (now (text .entry)) 0)) × (r .ground ≡ Good → Emits (now (path .entry)) 0 (drawOf scale (tokensFrom (now (text .entry)) 0)) (r .n) (now (path .exit))) × (r .n ≤ 2 * length (now (text .entry))) × (length (now (path .exit)) ≡ length (now (path .entry))) ⌝ }
 {
     let origin = Point { x: 0.0, y: 0.0 };
     let mut at = Stand {
@@ -757,8 +821,17 @@ fn draw(text: &[u8], scale: f32, path: &mut [u32]) -> usize
         let i = at.next;
         let next = next_token(text, i);
         match next {
-            Next::End => return at.n,
+            Next::End => {
+                return Traced {
+                    ground: refusal::Checked::Good,
+                    n: at.n,
+                };
+            }
             Next::Is(t, k) => {
+                let ground = turn_ground(text, t, k);
+                let refusal::Checked::Good = ground else {
+                    return Traced { ground, n: 0 };
+                };
                 let pen = at.pen;
                 let after = turn(text, t, i, k, scale, pen, at.n, path);
                 at = after;
@@ -786,24 +859,6 @@ fn check_tokens(text: &[u8]) -> refusal::Checked
     }
 }
 
-// Grounds 1, 2, 3 and 7.
-fn check(text: &[u8], exponent: u32) -> refusal::Checked
-    ensures { λ r. ⌜ r ≡ ground (now (text .entry)) exponent ⌝ }
-{
-    let first = refusal::check_text(text);
-    let refusal::Checked::Good = first else {
-        return first;
-    };
-    let third = check_tokens(text);
-    let refusal::Checked::Good = third else {
-        return third;
-    };
-    if exponent > 32 {
-        return refusal::Checked::Bad(refusal::Refusal::ScaleTooLarge);
-    }
-    refusal::Checked::Good
-}
-
 // What coordinates are multiplied by: one divided by 2 ^ (exponent - 1).
 fn scale_of(exponent: u32) -> f32
     requires { ⌜ exponent ≤ 32 ⌝ }
@@ -815,21 +870,58 @@ fn scale_of(exponent: u32) -> f32
     1.0 / float::nearest_u32(1 << (exponent - 1))
 }
 
-// 01, src/drawing.rs: the path of a drawing; first into no table, then, if nothing stands against it, into the lent one.
-pub fn parse_drawing(text: &[u8], exponent: u32, path: &mut [u32]) -> Drawing
+// Draws into the scratch path and, if nothing stands against it, copies the commands into the lent one.
+fn draw_by(text: &[u8], exponent: u32, scratch: &mut [u32], path: &mut [u32]) -> Drawing
+    requires { ⌜ (textGround (now text) ≡ Good) × (exponent ≤ 32) × (8 * min (2 * length (now text)) 1024 ≤ length (now scratch)) ⌝ }
     ensures { λ r. ⌜ Answered (now (text .entry)) exponent (now (path .entry)) r (now (path .exit)) ⌝ }
 {
-    let checked = check(text, exponent);
-    match checked {
+    let drawn = draw(text, scale_of(exponent), scratch);
+    let ground = drawn.ground;
+    match ground {
         refusal::Checked::Bad(r) => Drawing::Refused(r),
         refusal::Checked::Good => {
-            let scale = scale_of(exponent);
-            let n = draw(text, scale, &mut path[..0]);
+            let n = drawn.n;
             if n > least(path.len() / 8, 1024) {
                 return Drawing::Refused(refusal::Refusal::NoRoom(n));
             }
-            let _ = draw(text, scale, path);
+            tag::copy(scratch, 8 * n, path);
             Drawing::Drawn(n)
+        }
+    }
+}
+
+// Grounds 3 and 7 of a drawing whose scale exponent is too large.
+fn too_large(text: &[u8]) -> refusal::Refusal
+    ensures { λ r. ⌜ unless (tokensGround (tokensFrom (now (text .entry)) 0)) (Bad ScaleTooLarge) ≡ Bad r ⌝ }
+{
+    let third = check_tokens(text);
+    match third {
+        refusal::Checked::Bad(r) => r,
+        refusal::Checked::Good => refusal::Refusal::ScaleTooLarge,
+    }
+}
+
+// 01, src/drawing.rs: the path of a drawing, by a scratch path that has room for all that the text can hold.
+pub fn parse_drawing(text: &[u8], exponent: u32, path: &mut [u32]) -> Drawing
+    ensures { λ r. ⌜ Answered (now (text .entry)) exponent (now (path .entry)) r (now (path .exit)) ⌝ }
+{
+    let checked = refusal::check_text(text);
+    match checked {
+        refusal::Checked::Bad(r) => Drawing::Refused(r),
+        refusal::Checked::Good => {
+            if exponent > 32 {
+                return Drawing::Refused(too_large(text));
+            }
+            if text.len() <= 32 {
+                let mut scratch = [0u32; 512];
+                return draw_by(text, exponent, &mut scratch, path);
+            }
+            if text.len() <= 128 {
+                let mut scratch = [0u32; 2048];
+                return draw_by(text, exponent, &mut scratch, path);
+            }
+            let mut scratch = [0u32; 8192];
+            draw_by(text, exponent, &mut scratch, path)
         }
     }
 }

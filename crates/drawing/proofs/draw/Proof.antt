@@ -1,28 +1,30 @@
+use Rattle.drawing.proofs.Grounds.{ground-turned, ground-stopped}
 use Rattle.drawing.proofs.Answering.{going-on}
-use Rattle.drawing.proofs.Turning.{next-is, next-end}
+use Rattle.drawing.proofs.Turning.{next-is, next-end, ground-end}
 use Rattle.drawing.proofs.Emitting.{emits-none, emits-length}
 use Rattle.drawing.proofs.Machine.{left, left-end}
 use Rattle.drawing.specs.Drawing.{Emits, draw as drawOf}
 use Rattle.drawing.specs.Tokens.{from}
+use Rattle.drawing.specs.Answer.{tokensGround}
 use lib.Ieee.{ofBits}
 use lib.ListN.{length}
 use mathlib.Core.List.{List}
 use Prim.Native.Nat.{ℕ, _≤_, _-_, _*_}
 use native.Mathlib.Omega.{arith}
+use mathlib.Core.Path.{_≡_, refl, sym, _∙_}
 use borrow.Author.Needs.{needs}
-use mathlib.Core.Path.{_≡_, refl, _∙_}
 use Rattle.drawing.proofs.draw.Statement.{statement}
 use Rattle.drawing.proofs.draw.Tie as tie
 
 abbrev Inv-loop : tie.InvT-loop
-Inv-loop text scale path₀ at₀ path at = (at .next ≤ length text) × (at .n ≤ 2 * at .next) × (length path ≡ length path₀) × ((v : List ℕ) (m : ℕ) → Emits path (at .n) (left scale (at .pen) (from text (at .next))) m v → Emits path₀ 0 (drawOf scale (from text 0)) m v)
+Inv-loop text scale path₀ at₀ path at = (at .next ≤ length text) × (at .n ≤ 2 * at .next) × (length path ≡ length path₀) × ((v : List ℕ) (m : ℕ) → Emits path (at .n) (left scale (at .pen) (from text (at .next))) m v → Emits path₀ 0 (drawOf scale (from text 0)) m v) × (tokensGround (from text 0) ≡ tokensGround (from text (at .next)))
 
 abbrev μ-loop : tie.MeasureT-loop
 μ-loop text scale path₀ at₀ path at = length text - at .next
 
 loop-holds : tie.Need-loop-holds Inv-loop μ-loop
 unfolding ofBits
-loop-holds c = (search needs, search needs, refl, λ v m e. e)
+loop-holds c = (search needs, search needs, refl, λ v m e. e, refl)
 
 next-token-requires : tie.Need-next-token-requires Inv-loop μ-loop
 next-token-requires c κs = search needs
@@ -34,19 +36,61 @@ same-length : tie.Need-same-length Inv-loop μ-loop
 same-length c = search needs
 
 returns : tie.Need-returns Inv-loop μ-loop
-returns c = let l = c .before .before .before .loop in let a = c .before .before .before .before .before .before .args in l .inv .3 _ _ (rw (left-end (a .scale) (l .at .pen) _ (next-end (c .before .before .next-token .ensures) (c .enum-told .given .1))) (emits-none _ _))
+unfolding tokensGround
+returns c =
+    let l = c .before .before .before .loop in
+    let a = c .before .before .before .before .before .before .args in (
+      sym (l .inv .4 ∙ ground-end (c .before .before .next-token .ensures) (c .enum-told .given .1)),
+      λ q. l .inv .3 _ _ (rw (left-end (a .scale) (l .at .pen) _ (next-end (c .before .before .next-token .ensures) (c .enum-told .given .1))) (emits-none _ _)),
+      omega (arith, l .inv .0, l .inv .1),
+      l .inv .2,
+    )
 
 enum-known-next : tie.Need-enum-known-next Inv-loop μ-loop
 enum-known-next c = search needs
 
+turn-ground-requires : tie.Need-turn-ground-requires Inv-loop μ-loop
+turn-ground-requires c κs = next-is (c .before .before .before .next-token .ensures) (c .before .next .given .1) .high
+
+enum-told-2 : tie.Need-enum-told-2 Inv-loop μ-loop
+enum-told-2 c = search needs
+
+enum-told-3 : tie.Need-enum-told-3 Inv-loop μ-loop
+enum-told-3 c = search needs
+
+same-length-2 : tie.Need-same-length-2 Inv-loop μ-loop
+same-length-2 c = search needs
+
+returns-2 : tie.Need-returns-2 Inv-loop μ-loop
+returns-2 c =
+    let l = c .before .before .before .before .before .before .before .loop in
+    let n = next-is (c .before .before .before .before .before .before .next-token .ensures) (c .before .before .before .before .next .given .1) in (
+      sym (l .inv .4 ∙ ground-stopped (c .before .before .before .before .before .before .before .before .before .before .args .scale) (l .at .pen) _ n (c .before .before .turn-ground .ensures) (c .enum-told3 .given .1)),
+      λ q. absurd (let z : _≡_ {A = ℕ} 0 1 = cc in omega arith),
+      omega arith,
+      l .inv .2,
+    )
+
 turn-requires : tie.Need-turn-requires Inv-loop μ-loop
-turn-requires c κs = let n = next-is (c .before .before .before .before .before .next-token .ensures) (c .before .before .before .next .given .1) in (n .low, n .high, omega (arith, c .before .before .before .before .before .before .loop .inv .0, c .before .before .before .before .before .before .loop .inv .1, c .before .before .before .before .before .before .before .before .before .pre))
+turn-requires c κs =
+    let n = next-is (c .before .before .before .before .before .before .before .before .next-token .ensures) (c .before .before .before .before .before .before .next .given .1) in
+    let l = c .before .before .before .before .before .before .before .before .before .loop in
+    (n .low, n .high, omega (arith, l .inv .0, l .inv .1, c .before .before .before .before .before .before .before .before .before .before .before .before .pre), n .is)
 
 loop-less : tie.Need-loop-less Inv-loop μ-loop
 loop-less c = let w = c .before .before .turn .ensures in omega (arith, w .low, w .high)
 
 loop-again : tie.Need-loop-again Inv-loop μ-loop
-loop-again c = let l = c .before .before .before .before .before .before .before .before .before .loop in let w = c .before .before .turn .ensures in let n = next-is (c .before .before .before .before .before .before .before .before .next-token .ensures) (c .before .before .before .before .before .before .next .given .1) in (w .high, omega (arith, w .low, w .few, l .inv .1), emits-length (w .emits) ∙ l .inv .2, λ v m e. l .inv .3 v m (going-on _ _ _ n w e))
+loop-again c =
+    let l = c .before .before .before .before .before .before .before .before .before .before .before .before .loop in
+    let w = c .before .before .turn .ensures in
+    let n = next-is (c .before .before .before .before .before .before .before .before .before .before .before .next-token .ensures) (c .before .before .before .before .before .before .before .before .before .next .given .1) in (
+      w .high,
+      omega (arith, w .low, w .few, l .inv .1),
+      emits-length (w .emits) ∙ l .inv .2,
+      λ v m e. l .inv .3 v m (going-on _ _ _ n w e),
+      l .inv .4 ∙ ground-turned (c .before .before .before .before .before .before .before .before .before .before .before .before .before .before .before .args .scale) (l .at .pen) _ n (c .before .before .before .before .before .before .before .turn-ground .ensures) _ (c .before .before .before .before .before .enum-told2 .given .1) (w .rest),
+    )
 
 pub draw-spec : {M : Type 1} → statement M
 draw-spec =
@@ -60,6 +104,11 @@ draw-spec =
     same-length
     returns
     enum-known-next
+    turn-ground-requires
+    enum-told-2
+    enum-told-3
+    same-length-2
+    returns-2
     turn-requires
     loop-less
     loop-again)

@@ -1,10 +1,10 @@
-use Rattle.drawing.proofs.Turning.{pointed-none, pointed-some}
+use Rattle.drawing.proofs.Turning.{point-from, pointed-none, pointed-some}
 use borrow.Author.Needs.{needs}
 use Rattle.drawing.proofs.point_turn.Statement.{statement}
 use Rattle.drawing.proofs.point_turn.Tie as tie
 
-read-point-requires : tie.Need-read-point-requires
-read-point-requires c κs = search needs
+point-from-requires : tie.Need-point-from-requires
+point-from-requires c κs = search needs
 
 enum-known-read : tie.Need-enum-known-read
 enum-known-read c = search needs
@@ -16,7 +16,7 @@ settled-requires : tie.Need-settled-requires
 settled-requires c κs = search needs
 
 returns : tie.Need-returns
-returns c = pointed-none _ (search needs) (search needs) (c .before .before .before .read-point .ensures) (c .before .enum-told .given .1) (c .settled .ensures)
+returns c = pointed-none _ (search needs) (search needs) (point-from _ (record { is = c .before .before .before .before .before .before .pre .3; low = c .before .before .before .before .before .before .pre .0; high = c .before .before .before .before .before .before .pre .1 }) (c .before .before .before .point-from .ensures)) (c .before .enum-told .given .1) (c .settled .ensures)
 
 on-point-requires : tie.Need-on-point-requires
 on-point-requires c κs = search needs
@@ -25,13 +25,13 @@ same-length : tie.Need-same-length
 same-length c = search needs
 
 returns-2 : tie.Need-returns-2
-returns-2 c = pointed-some _ (search needs) (search needs) (c .before .before .before .before .before .before .before .before .read-point .ensures) (c .before .before .before .before .before .before .read .given .1) (c .before .before .before .on-point .ensures)
+returns-2 c = pointed-some _ (search needs) (search needs) (point-from _ (record { is = c .before .before .before .before .before .before .before .before .before .before .before .pre .3; low = c .before .before .before .before .before .before .before .before .before .before .before .pre .0; high = c .before .before .before .before .before .before .before .before .before .before .before .pre .1 }) (c .before .before .before .before .before .before .before .before .point-from .ensures)) (c .before .before .before .before .before .before .read .given .1) (c .before .before .before .on-point .ensures)
 
 pub point-turn-spec : {M : Type 1} → statement M
 point-turn-spec =
     tie.close
     (tie.spec
-    read-point-requires
+    point-from-requires
     enum-known-read
     enum-told
     settled-requires
