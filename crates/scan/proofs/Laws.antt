@@ -1,5 +1,5 @@
 -- One step of each scan, and bounds.
-use mathlib.Core.Path.{_≡_, refl}
+use mathlib.Core.Path.{_≡_, refl, ap, _∙_}
 use mathlib.Core.List.{List}
 use mathlib.Core.Bool.{Bool, true, false}
 use mathlib.Core.Logic.{_⊎_, inl, inr, ⊎-elim}
@@ -8,9 +8,11 @@ use native.Mathlib.Omega.{arith}
 use native.Mathlib.Nat.{le-refl}
 use native.Mathlib.Decide.{decLe}
 use lib.ListN.{getD}
-use lib.Dec.{eqb}
-use borrow.Author.Tests.{eq-eqb, ne-eqb, lt-ltb, le-ltb, le-leb, lt-leb}
-use Rattle.scan.specs.Scan.{pick, digitOf, isBlank, blankAt, blankBefore, span, spanTo, back, backTo, skip, skipTo, skipBack, trimEnd, opened, closing, closingTo}
+use lib.Dec.{eqb, ltb}
+use borrow.Author.Tests.{eq-eqb, ne-eqb, lt-ltb, le-ltb, le-leb, lt-leb, ltb-true}
+use Rattle.scan.specs.Passed.{Passed}
+use Rattle.scan.specs.declared.Class.the-variants.{Digit}
+use Rattle.scan.specs.Scan.{pick, digitOf, inClass, isBlank, blankAt, blankBefore, span, spanTo, back, backTo, skip, skipTo, skipBack, trimEnd, opened, closing, closingTo}
 
 pub more : (i e : ℕ) → i < e → e - i ≡ suc (e - (i + 1))
 more i e h = omega arith
@@ -204,3 +206,65 @@ module _ (b : ℕ) where
 
   pub digit-above : 102 < b → 16 ≡ digitOf b
   digit-above h = simp (le-leb 48 b (omega arith), lt-leb b 57 (omega arith), le-leb 65 b (omega arith), lt-leb b 70 (omega arith), le-leb 97 b (omega arith), lt-leb b 102 h)
+
+-- scans by blocks
+module _ (p : ℕ → Bool) (s : List ℕ) where
+  pub passed-none : (i e : ℕ) → i ≤ e → Passed p s i e i
+  passed-none i e h = record { low = le-refl i; high = h; all = λ j a b. absurd (omega arith) }
+
+  pub passed-more : (i e j r : ℕ) → Passed p s i e j → r ≡ j + 1 → r ≤ e → p (getD s j 0) ≡ true → Passed p s i e r
+  passed-more i e j r f q h t =
+      record {
+        low = omega (arith, f .low);
+        high = h;
+        all = λ k a b. ⊎-elim (λ (l : j ≤ k). let z : k ≡ j = omega arith in rw z t) (λ (l : k < j). f .all k a l) (le-or-lt j k);
+      }
+
+  span-over : (n i e : ℕ) → i + n ≤ e → ((j : ℕ) → i ≤ j → j < i + n → p (getD s j 0) ≡ true) → spanTo p s i e ≡ spanTo p s (i + n) e
+  span-over zero i e h f = let z : i ≡ i + 0 = omega arith in ap (λ (j : ℕ). spanTo p s j e) z
+  span-over (suc n) i e h f =
+      let z : i + 1 + n ≡ i + suc n = omega arith in
+      span-go p s i e (omega arith) (f i (le-refl i) (omega arith))
+      ∙ span-over n (i + 1) e (omega arith) (λ j a b. f j (omega arith) (omega arith))
+      ∙ ap (λ (j : ℕ). spanTo p s j e) z
+
+  pub passed-span : (i e r : ℕ) → Passed p s i e r → spanTo p s i e ≡ spanTo p s r e
+  passed-span i e r f =
+      let l = f .low in
+      let z : i + (r - i) ≡ r = omega arith in
+      span-over (r - i) i e (omega (arith, f .high)) (λ j a b. f .all j a (omega arith)) ∙ ap (λ (j : ℕ). spanTo p s j e) z
+
+-- a byte above both parentheses opens and closes nothing
+pub opened-none : (b k : ℕ) → 41 < b → opened b k ≡ k
+opened-none b k h = rw (ne-eqb b 40 (λ z. omega arith), ne-eqb b 41 (λ z. omega arith))
+
+closing-over : (s : List ℕ) (k : ℕ) → 0 < k → (n i e : ℕ) → i + n ≤ e → ((j : ℕ) → i ≤ j → j < i + n → ltb 41 (getD s j 0) ≡ true) → closingTo s i e k ≡ closingTo s (i + n) e k
+closing-over s k z zero i e h f = let q : i ≡ i + 0 = omega arith in ap (λ (j : ℕ). closingTo s j e k) q
+closing-over s k z (suc n) i e h f =
+    let q : i + 1 + n ≡ i + suc n = omega arith in
+    closing-go s i e k k (omega arith) (opened-none (getD s i 0) k (ltb-true 41 (getD s i 0) (f i (le-refl i) (omega arith)))) (λ w. omega arith)
+    ∙ closing-over s k z n (i + 1) e (omega arith) (λ j a b. f j (omega arith) (omega arith))
+    ∙ ap (λ (j : ℕ). closingTo s j e k) q
+
+pub passed-closing : (s : List ℕ) (i e k r : ℕ) → 0 < k → Passed (λ b. ltb 41 b) s i e r → closingTo s i e k ≡ closingTo s r e k
+passed-closing s i e k r z f =
+    let l = f .low in
+    let q : i + (r - i) ≡ r = omega arith in
+    closing-over s k z (r - i) i e (omega (arith, f .high)) (λ j a b. f .all j a (omega arith)) ∙ ap (λ (j : ℕ). closingTo s j e k) q
+
+-- the digits of a radix up to ten
+pub digit-radix : (b radix : ℕ) → radix ≤ 10 → 48 ≤ b → ltb (b - 48) radix ≡ inClass (Digit radix) b
+digit-radix b radix h l =
+    ⊎-elim
+    (λ (k : b ≤ 57). rw (← digit-decimal b l k))
+    (λ (k : 57 < b). let z : radix ≤ digitOf b = omega (arith, no-decimal b k) in rw (le-ltb (b - 48) radix (omega arith), le-ltb (digitOf b) radix z))
+    (le-or-lt b 57)
+  where
+    no-decimal : (b : ℕ) → 57 < b → 10 ≤ digitOf b
+    no-decimal b z =
+        ⊎-elim (λ (h : 103 ≤ b). rw (← digit-above b h) (omega arith))
+        (λ (h : b < 103). ⊎-elim (λ (k : 97 ≤ b). rw (← digit-lower b k (omega arith)) (omega arith))
+        (λ (k : b < 97). ⊎-elim (λ (l : 71 ≤ b). rw (← digit-middle b l k) (omega arith))
+        (λ (l : b < 71). ⊎-elim (λ (m : 65 ≤ b). rw (← digit-upper b m (omega arith)) (omega arith))
+        (λ (m : b < 65). rw (← digit-between b z m) (omega arith))
+        (le-or-lt 65 b)) (le-or-lt 71 b)) (le-or-lt 97 b)) (le-or-lt 103 b)

@@ -1,8 +1,12 @@
 // Scans over a text by positions: classes of bytes, blanks, trimming, the closing parenthesis.
 ghost use mathlib.Core.Path.{_≡_};
-ghost use Prim.Native.Nat.{_+_, _-_, _^_, _≤_, _<_};
-ghost use lib.ListN.{length};
+ghost use Prim.Native.Nat.{ℕ, _+_, _-_, _^_, _≤_, _<_};
+ghost use lib.ListN.{length, getD};
 ghost use Rattle.scan.specs.Scan.{digitOf, inClass, isBlank, blankAt, blankBefore, spanTo, backTo, trimStart, trimEnd, past as pastTo, opened as openedBy, closingTo, Place};
+ghost use Rattle.scan.specs.Passed.{Passed};
+ghost use Rattle.scan.specs.declared.Class.the-variants.{Digit, Letter, Not, Below};
+ghost use mathlib.Core.Bool.{not};
+ghost use lib.Dec.{eqb, ltb};
 
 // A class of bytes: the digits of a radix up to 16, the ASCII letters, one byte, all but one, either of two, neither of two, those below one.
 pub enum Class {
@@ -52,12 +56,25 @@ fn is_letter(b: u8) -> bool
     }
 }
 
+// Whether a byte is a digit of a radix.
+fn is_digit(b: u8, radix: u8) -> bool
+    ensures { λ r. ⌜ r ≡ inClass (Digit radix) b ⌝ }
+{
+    if radix > 10 {
+        return digit_of(b) < radix;
+    }
+    if b < 48 {
+        return false;
+    }
+    b - 48 < radix
+}
+
 // Whether a byte is of a class.
 pub fn has(class: Class, b: u8) -> bool
     ensures { λ r. ⌜ r ≡ inClass «class» b ⌝ }
 {
     match class {
-        Class::Digit(radix) => digit_of(b) < radix,
+        Class::Digit(radix) => is_digit(b, radix),
         Class::Letter => is_letter(b),
         Class::Is(x) => b == x,
         Class::Not(x) => b != x,
@@ -67,8 +84,81 @@ pub fn has(class: Class, b: u8) -> bool
     }
 }
 
-// The first place from `from` on whose byte is not of the class, or `to`.
-pub fn span(text: &[u8], class: Class, from: usize, to: usize) -> usize
+// A place from `from` on, with no byte x before it: at the first one, or less than four places before `to`.
+fn unlike(text: &[u8], x: u8, from: usize, to: usize) -> usize
+    requires { ⌜ (from ≤ to) × (to ≤ length (now text)) ⌝ }
+    ensures { λ r. ⌜ Passed (λ b. not (eqb b x)) (now (text .entry)) from to r ⌝ }
+{
+    let mut i = from;
+    while to - i >= 4 {
+        if text[i] == x {
+            return i;
+        }
+        let j = i + 1;
+        if text[j] == x {
+            return j;
+        }
+        let k = i + 2;
+        if text[k] == x {
+            return k;
+        }
+        let l = i + 3;
+        if text[l] == x {
+            return l;
+        }
+        i += 4;
+    }
+    i
+}
+
+// The first place from `from` on with the byte x, or `to`.
+fn until(text: &[u8], x: u8, from: usize, to: usize) -> usize
+    requires { ⌜ (from ≤ to) × (to ≤ length (now text)) ⌝ }
+    ensures { λ r. ⌜ Place from to (spanTo (inClass (Not x)) (now (text .entry)) from to) r ⌝ }
+{
+    let mut i = unlike(text, x, from, to);
+    while i < to {
+        if text[i] == x {
+            return i;
+        }
+        i += 1;
+    }
+    i
+}
+
+// The place behind the letters from `from` on.
+fn letters(text: &[u8], from: usize, to: usize) -> usize
+    requires { ⌜ (from ≤ to) × (to ≤ length (now text)) ⌝ }
+    ensures { λ r. ⌜ Place from to (spanTo (inClass Letter) (now (text .entry)) from to) r ⌝ }
+{
+    let mut i = from;
+    while i < to {
+        if !is_letter(text[i]) {
+            return i;
+        }
+        i += 1;
+    }
+    i
+}
+
+// A bound of the bytes between two places: the highest.
+fn highest(text: &[u8], from: usize, to: usize) -> u8
+    requires { ⌜ (from ≤ to) × (to ≤ length (now text)) ⌝ }
+    ensures { λ r. ⌜ ((j : ℕ) → from ≤ j → j < to → getD (now (text .entry)) j 0 ≤ r) ⌝ }
+{
+    let mut m: u8 = 0;
+    let mut i = from;
+    while i < to {
+        if text[i] > m {
+            m = text[i];
+        }
+        i += 1;
+    }
+    m
+}
+
+// The first place from `from` on whose byte is not of the class, or `to`, byte by byte.
+fn each(text: &[u8], class: Class, from: usize, to: usize) -> usize
     requires { ⌜ (from ≤ to) × (to ≤ length (now text)) ⌝ }
     ensures { λ r. ⌜ Place from to (spanTo (inClass «class») (now (text .entry)) from to) r ⌝ }
 {
@@ -80,6 +170,33 @@ pub fn span(text: &[u8], class: Class, from: usize, to: usize) -> usize
         i += 1;
     }
     i
+}
+
+// The first place from `from` on whose byte is not below x, or `to`: mostly there is none.
+fn below(text: &[u8], x: u8, from: usize, to: usize) -> usize
+    requires { ⌜ (from ≤ to) × (to ≤ length (now text)) ⌝ }
+    ensures { λ r. ⌜ Place from to (spanTo (inClass (Below x)) (now (text .entry)) from to) r ⌝ }
+{
+    if highest(text, from, to) < x {
+        return to;
+    }
+    each(text, Class::Below(x), from, to)
+}
+
+// The first place from `from` on whose byte is not of the class, or `to`.
+pub fn span(text: &[u8], class: Class, from: usize, to: usize) -> usize
+    requires { ⌜ (from ≤ to) × (to ≤ length (now text)) ⌝ }
+    ensures { λ r. ⌜ Place from to (spanTo (inClass «class») (now (text .entry)) from to) r ⌝ }
+{
+    match class {
+        Class::Not(x) => until(text, x, from, to),
+        Class::Letter => letters(text, from, to),
+        Class::Below(x) => below(text, x, from, to),
+        Class::Digit(_) => each(text, class, from, to),
+        Class::Is(_) => each(text, class, from, to),
+        Class::Either(_, _) => each(text, class, from, to),
+        Class::Neither(_, _) => each(text, class, from, to),
+    }
 }
 
 // The least place from which on, up to `to`, all bytes are of the class.
@@ -185,6 +302,33 @@ fn opened(b: u8, k: usize) -> usize
     }
 }
 
+// A place from `from` on, with no byte below 42 and so no parenthesis before it: at the first one, or less than four places before `to`.
+fn clear(text: &[u8], from: usize, to: usize) -> usize
+    requires { ⌜ (from ≤ to) × (to ≤ length (now text)) ⌝ }
+    ensures { λ r. ⌜ Passed (λ b. ltb 41 b) (now (text .entry)) from to r ⌝ }
+{
+    let mut i = from;
+    while to - i >= 4 {
+        if text[i] <= 41 {
+            return i;
+        }
+        let j = i + 1;
+        if text[j] <= 41 {
+            return j;
+        }
+        let k = i + 2;
+        if text[k] <= 41 {
+            return k;
+        }
+        let l = i + 3;
+        if text[l] <= 41 {
+            return l;
+        }
+        i += 4;
+    }
+    i
+}
+
 // The place of the parenthesis that closes the one open before `from`, or `to`.
 pub fn closing(text: &[u8], from: usize, to: usize) -> usize
     requires { ⌜ (from ≤ to) × (to ≤ length (now text)) ⌝ }
@@ -193,11 +337,15 @@ pub fn closing(text: &[u8], from: usize, to: usize) -> usize
     let mut i = from;
     let mut k: usize = 1;
     while i < to {
-        k = opened(text[i], k);
-        if k == 0 {
-            return i;
+        if text[i] > 41 {
+            i = clear(text, i + 1, to);
+        } else {
+            k = opened(text[i], k);
+            if k == 0 {
+                return i;
+            }
+            i += 1;
         }
-        i += 1;
     }
     i
 }

@@ -6,8 +6,8 @@ use Rattle.scan.proofs.has.Tie as tie
 enum-known-class : tie.Need-enum-known-class
 enum-known-class c = search needs
 
-digit-of-requires : tie.Need-digit-of-requires
-digit-of-requires c κs = search needs
+is-digit-requires : tie.Need-is-digit-requires
+is-digit-requires c κs = search needs
 
 enum-told : tie.Need-enum-told
 enum-told c = search needs
@@ -31,7 +31,7 @@ enum-known-class-6 : tie.Need-enum-known-class-6
 enum-known-class-6 c = search needs
 
 returns : tie.Need-returns
-returns c = rw (c .before .before .class .given .1, c .digit-of .ensures)
+returns c = rw (c .before .before .class .given .1) (c .is-digit .ensures)
 
 returns-2 : tie.Need-returns-2
 returns-2 c = rw (c .before .enum-told .given .1) (c .is-letter .ensures)
@@ -62,7 +62,7 @@ has-spec =
     tie.close
     (tie.spec
     enum-known-class
-    digit-of-requires
+    is-digit-requires
     enum-told
     is-letter-requires
     enum-known-class-2

@@ -1,57 +1,92 @@
-use Rattle.scan.proofs.Laws.{span-end, span-stop, span-go}
-use Rattle.scan.specs.Scan.{inClass, spanTo}
-use Prim.Native.Nat.{_-_, _≤_}
-use mathlib.Core.Path.{_≡_, sym, _∙_}
-use borrow.Author.Tests.{not-true, not-false}
 use borrow.Author.Needs.{needs}
 use Rattle.scan.proofs.span.Statement.{statement}
 use Rattle.scan.proofs.span.Tie as tie
 
-abbrev Inv-loop : tie.InvT-loop
-Inv-loop text class from to i₀ i = (from ≤ i) × (i ≤ to) × (spanTo (inClass «class») text from to ≡ spanTo (inClass «class») text i to)
+enum-known-class : tie.Need-enum-known-class
+enum-known-class c = search needs
 
-abbrev μ-loop : tie.MeasureT-loop
-μ-loop text class from to i₀ i = to - i
+until-requires : tie.Need-until-requires
+until-requires c κs = search needs
 
-loop-holds : tie.Need-loop-holds Inv-loop μ-loop
-loop-holds c = search needs
+enum-told : tie.Need-enum-told
+enum-told c = search needs
 
-shared-slice-read-has : tie.Need-shared-slice-read-has Inv-loop μ-loop
-shared-slice-read-has c = search needs
+letters-requires : tie.Need-letters-requires
+letters-requires c κs = search needs
 
-has-requires : tie.Need-has-requires Inv-loop μ-loop
-has-requires c κs = search needs
+enum-known-class-2 : tie.Need-enum-known-class-2
+enum-known-class-2 c = search needs
 
-returns : tie.Need-returns Inv-loop μ-loop
-returns c =
-    let l = c .before .before .before .before in
-    record { is = sym (l .loop .inv .2 ∙ span-stop _ _ _ _ (search needs) (sym (c .before .has .ensures) ∙ not-true _ (c .if1 .taken))); low = search needs; high = search needs }
+below-requires : tie.Need-below-requires
+below-requires c κs = search needs
 
-add-i : tie.Need-add-i Inv-loop μ-loop
-add-i c = search needs
+enum-told-2 : tie.Need-enum-told-2
+enum-told-2 c = search needs
 
-loop-less : tie.Need-loop-less Inv-loop μ-loop
-loop-less c = search needs
+each-requires : tie.Need-each-requires
+each-requires c κs = search needs
 
-loop-again : tie.Need-loop-again Inv-loop μ-loop
-loop-again c =
-    let l = c .before .before .before .before in
-    (search needs, search needs, l .loop .inv .2 ∙ span-go _ _ _ _ (search needs) (sym (c .before .has .ensures) ∙ not-false _ (c .if1 .left)))
+enum-told-3 : tie.Need-enum-told-3
+enum-told-3 c = search needs
 
-returns-2 : tie.Need-returns-2 Inv-loop μ-loop
-returns-2 c = record { is = sym (c .before .loop .inv .2 ∙ span-end _ _ _ _ (search needs)); low = search needs; high = search needs }
+each-requires-2 : tie.Need-each-requires-2
+each-requires-2 c κs = search needs
+
+enum-told-4 : tie.Need-enum-told-4
+enum-told-4 c = search needs
+
+each-requires-3 : tie.Need-each-requires-3
+each-requires-3 c κs = search needs
+
+enum-told-5 : tie.Need-enum-told-5
+enum-told-5 c = search needs
+
+each-requires-4 : tie.Need-each-requires-4
+each-requires-4 c κs = search needs
+
+returns : tie.Need-returns
+returns c = rw (c .before .before .class .given .1) (c .until .ensures)
+
+returns-2 : tie.Need-returns-2
+returns-2 c = rw (c .before .enum-told .given .1) (c .letters .ensures)
+
+returns-3 : tie.Need-returns-3
+returns-3 c = rw (c .before .before .class2 .given .1) (c .below .ensures)
+
+returns-4 : tie.Need-returns-4
+returns-4 c = search needs
+
+returns-5 : tie.Need-returns-5
+returns-5 c = search needs
+
+returns-6 : tie.Need-returns-6
+returns-6 c = search needs
+
+returns-7 : tie.Need-returns-7
+returns-7 c = search needs
 
 pub span-spec : {M : Type 1} → statement M
 span-spec =
     tie.close
     (tie.spec
-    Inv-loop
-    μ-loop
-    loop-holds
-    shared-slice-read-has
-    has-requires
+    enum-known-class
+    until-requires
+    enum-told
+    letters-requires
+    enum-known-class-2
+    below-requires
+    enum-told-2
+    each-requires
+    enum-told-3
+    each-requires-2
+    enum-told-4
+    each-requires-3
+    enum-told-5
+    each-requires-4
     returns
-    add-i
-    loop-less
-    loop-again
-    returns-2)
+    returns-2
+    returns-3
+    returns-4
+    returns-5
+    returns-6
+    returns-7)
