@@ -9,7 +9,7 @@ use borrow.Author.Tests.{ne-eqb}
 use lib.IntN.{ℤ, pos}
 use lib.Pow.{shl-lt}
 use lib.Ieee.{Float, nan, inf, fin, binary32, up, down, unlike, round, div, ofInt}
-use lib.Ieee.Fits.{up-pos, down-pos}
+use lib.Ieee.Fits.{down-pos}
 use lib.Ieee.Exact.{HasValue, round-exact}
 use lib.Ieee.Positive.{first-pos}
 use lib.Ieee.Scale.{round-same}

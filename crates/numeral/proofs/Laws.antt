@@ -2,18 +2,18 @@
 use mathlib.Core.Path.{_≡_, refl, sym, _∙_}
 use mathlib.Core.List.{List}
 use mathlib.Core.Bool.{Bool, true, false}
-use mathlib.Core.Logic.{_⊎_, ⊎-elim}
+use mathlib.Core.Logic.{⊎-elim}
 use Prim.Native.Nat.{ℕ, zero, suc, _+_, _-_, _*_, _^_, _≤_, _<_, min}
 use native.Mathlib.Omega.{arith}
 use native.Mathlib.Numerals.{add-one}
-use native.Mathlib.Nat.{le-refl, le-trans, le-mul-of-pos-right, min-eq-left, min-eq-right, min-le-right, mul-le-mul-right, pow-zero, pow-suc, pow-succ', pow-le-pow-right, mul-assoc, add-mul, one-mul, lt-of-lt-of-le, lt-of-le-of-lt, le-of-lt, add-le-add, mul-le-mul, mul-le-mul-left}
+use native.Mathlib.Nat.{le-refl, le-trans, le-mul-of-pos-right, min-eq-left, min-eq-right, min-le-right, mul-le-mul-right, pow-zero, pow-suc, pow-succ', pow-le-pow-right, mul-assoc, add-mul, one-mul, lt-of-lt-of-le, lt-of-le-of-lt, add-le-add, mul-le-mul, mul-le-mul-left}
 use lib.ListN.{getD}
-use lib.Dec.{ltb, leb, lit<, lit≤}
+use lib.Dec.{ltb, leb, lit<}
 use lib.IntN.{pos, negℤ}
 use borrow.Author.Tests.{eq-eqb, ne-eqb, lt-ltb, le-ltb, le-leb, lt-leb, ltb-true}
 use Rattle.scan.specs.Scan.{pick, digitOf, inClass, span, spanTo, past}
 use Rattle.scan.specs.declared.Class.the-variants.{Digit}
-use Rattle.scan.proofs.Laws.{le-or-lt, more, none, span-low, digit-below, digit-decimal, digit-between, digit-upper, digit-middle, digit-lower, digit-above}
+use Rattle.scan.proofs.Laws.{le-or-lt, more, none, span-low, digit-below, digit-decimal, digit-between, digit-upper, digit-middle, digit-lower, digit-above, no-decimal}
 use Rattle.float.specs.Float.{toWord}
 use Rattle.numeral.specs.declared.Numeral.the-variants.{No, Word}
 use Rattle.numeral.specs.declared.Decimal.{Decimal}
@@ -214,17 +214,8 @@ module _ (s : List ℕ) (a b : ℕ) (d : Decimal) (q : d ≡ splitAt s a b) (n :
 pub no-digit-below : (b : ℕ) → b < 48 → isDigit b ≡ false
 no-digit-below b h = rw (← digit-below b h)
 
-ten-at-least : (b : ℕ) → 57 < b → 10 ≤ digitOf b
-ten-at-least b z =
-    ⊎-elim (λ (h : 103 ≤ b). rw (← digit-above b h) (omega arith))
-    (λ (h : b < 103). ⊎-elim (λ (k : 97 ≤ b). rw (← digit-lower b k (omega arith)) (omega arith))
-    (λ (k : b < 97). ⊎-elim (λ (l : 71 ≤ b). rw (← digit-middle b l k) (omega arith))
-    (λ (l : b < 71). ⊎-elim (λ (m : 65 ≤ b). rw (← digit-upper b m (omega arith)) (omega arith))
-    (λ (m : b < 65). rw (← digit-between b z m) (omega arith))
-    (le-or-lt 65 b)) (le-or-lt 71 b)) (le-or-lt 97 b)) (le-or-lt 103 b)
-
 pub no-digit-above : (b : ℕ) → 57 < b → isDigit b ≡ false
-no-digit-above b h = le-ltb (digitOf b) 10 (ten-at-least b h)
+no-digit-above b h = le-ltb (digitOf b) 10 (no-decimal b h)
 
 pub digit-between-is : (b : ℕ) → 48 ≤ b → b ≤ 57 → isDigit b ≡ true
 digit-between-is b h k = rw (← digit-decimal b h k) (lt-ltb (b - 48) 10 (omega arith))

@@ -138,14 +138,14 @@ fn run_at(text: &[u8], from: usize, to: usize, start: u64) -> Run
     let mut i = from;
     let mut a = start;
     while i < stop {
-        let b = text[i];
+        let b = wide(text[i]);
         if b < 48 {
             return Run { end: i, value: a };
         }
         if b > 57 {
             return Run { end: i, value: a };
         }
-        a = a * 10 + wide(b - 48);
+        a = a * 10 + b - 48;
         i += 1;
     }
     if i < to {

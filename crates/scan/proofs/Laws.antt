@@ -252,6 +252,16 @@ passed-closing s i e k r z f =
     let q : i + (r - i) ≡ r = omega arith in
     closing-over s k z (r - i) i e (omega (arith, f .high)) (λ j a b. f .all j a (omega arith)) ∙ ap (λ (j : ℕ). closingTo s j e k) q
 
+-- no byte above the decimal digits has a value below ten
+pub no-decimal : (b : ℕ) → 57 < b → 10 ≤ digitOf b
+no-decimal b z =
+    ⊎-elim (λ (h : 103 ≤ b). rw (← digit-above b h) (omega arith))
+    (λ (h : b < 103). ⊎-elim (λ (k : 97 ≤ b). rw (← digit-lower b k (omega arith)) (omega arith))
+    (λ (k : b < 97). ⊎-elim (λ (l : 71 ≤ b). rw (← digit-middle b l k) (omega arith))
+    (λ (l : b < 71). ⊎-elim (λ (m : 65 ≤ b). rw (← digit-upper b m (omega arith)) (omega arith))
+    (λ (m : b < 65). rw (← digit-between b z m) (omega arith))
+    (le-or-lt 65 b)) (le-or-lt 71 b)) (le-or-lt 97 b)) (le-or-lt 103 b)
+
 -- the digits of a radix up to ten
 pub digit-radix : (b radix : ℕ) → radix ≤ 10 → 48 ≤ b → ltb (b - 48) radix ≡ inClass (Digit radix) b
 digit-radix b radix h l =
@@ -259,12 +269,3 @@ digit-radix b radix h l =
     (λ (k : b ≤ 57). rw (← digit-decimal b l k))
     (λ (k : 57 < b). let z : radix ≤ digitOf b = omega (arith, no-decimal b k) in rw (le-ltb (b - 48) radix (omega arith), le-ltb (digitOf b) radix z))
     (le-or-lt b 57)
-  where
-    no-decimal : (b : ℕ) → 57 < b → 10 ≤ digitOf b
-    no-decimal b z =
-        ⊎-elim (λ (h : 103 ≤ b). rw (← digit-above b h) (omega arith))
-        (λ (h : b < 103). ⊎-elim (λ (k : 97 ≤ b). rw (← digit-lower b k (omega arith)) (omega arith))
-        (λ (k : b < 97). ⊎-elim (λ (l : 71 ≤ b). rw (← digit-middle b l k) (omega arith))
-        (λ (l : b < 71). ⊎-elim (λ (m : 65 ≤ b). rw (← digit-upper b m (omega arith)) (omega arith))
-        (λ (m : b < 65). rw (← digit-between b z m) (omega arith))
-        (le-or-lt 65 b)) (le-or-lt 71 b)) (le-or-lt 97 b)) (le-or-lt 103 b)

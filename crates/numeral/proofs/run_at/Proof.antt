@@ -1,11 +1,10 @@
 use mathlib.Core.Path.{_≡_, refl, sym, ap, _∙_}
-use mathlib.Core.Bool.{false, true}
 use mathlib.Core.List.{List}
 use Prim.Native.Nat.{ℕ, _+_, _-_, _*_, _^_, _<_, _≤_, min}
 use native.Mathlib.Nat.{le-refl, lt-of-lt-of-le, pow-zero}
 use native.Mathlib.Omega.{arith}
 use lib.ListN.{getD}
-use Rattle.scan.specs.Scan.{spanTo, digitOf, Place}
+use Rattle.scan.specs.Scan.{spanTo, Place}
 use Rattle.scan.proofs.Laws.{span-end, span-stop, span-go, digit-decimal}
 use Rattle.numeral.specs.Numeral.{value, isDigit}
 use Rattle.numeral.proofs.Laws.{value-end, value-go, no-digit-below, no-digit-above, digit-between-is, run-below, run-nine}
@@ -68,31 +67,34 @@ loop-holds c =
     let z : a .from - a .from ≡ 0 = omega arith in
     (le-refl (a .from), omega (arith, c .nine-on .ensures), refl, rw (z, pow-zero) (omega arith), λ j h. refl)
 
-shared-slice-read-b : tie.Need-shared-slice-read-b Inv-loop μ-loop
-shared-slice-read-b c = search needs
-
-returns : tie.Need-returns Inv-loop μ-loop
-returns c =
-    let l = c .before .before .before in
-    stopped _ _ _ _ _ _ _ (l .before .nine-on .ensures) (l .loop .inv) (span-stop isDigit _ _ _ (omega arith) (no-digit-below _ (c .if1 .taken)))
-
-returns-2 : tie.Need-returns-2 Inv-loop μ-loop
-returns-2 c =
-    let l = c .before .before .before .before in
-    stopped _ _ _ _ _ _ _ (l .before .nine-on .ensures) (l .loop .inv) (span-stop isDigit _ _ _ (omega arith) (no-digit-above _ (c .if2 .taken)))
-
-mul-a : tie.Need-mul-a Inv-loop μ-loop
-mul-a c =
-    let l = c .before .before .before .before in
-    omega (arith, step-low _ _ _ _ _ _ _ (l .before .nine-on .ensures) (l .loop .inv) _ refl (omega arith) (omega arith) (omega arith))
+shared-slice-read-wide : tie.Need-shared-slice-read-wide Inv-loop μ-loop
+shared-slice-read-wide c = search needs
 
 wide-requires : tie.Need-wide-requires Inv-loop μ-loop
 wide-requires c κs = search needs
 
+returns : tie.Need-returns Inv-loop μ-loop
+returns c =
+    let l = c .before .before .before .before in
+    stopped _ _ _ _ _ _ _ (l .before .nine-on .ensures) (l .loop .inv) (span-stop isDigit _ _ _ (omega arith) (ap isDigit (sym (c .before .wide .ensures)) ∙ no-digit-below _ (c .if1 .taken)))
+
+returns-2 : tie.Need-returns-2 Inv-loop μ-loop
+returns-2 c =
+    let l = c .before .before .before .before .before in
+    stopped _ _ _ _ _ _ _ (l .before .nine-on .ensures) (l .loop .inv) (span-stop isDigit _ _ _ (omega arith) (ap isDigit (sym (c .before .before .wide .ensures)) ∙ no-digit-above _ (c .if2 .taken)))
+
+mul-a : tie.Need-mul-a Inv-loop μ-loop
+mul-a c =
+    let l = c .before .before .before .before .before in
+    omega (arith, step-low _ _ _ _ _ _ _ (l .before .nine-on .ensures) (l .loop .inv) _ (c .before .before .wide .ensures) (omega arith) (omega arith) (omega arith))
+
 add-a : tie.Need-add-a Inv-loop μ-loop
 add-a c =
     let l = c .before .before .before .before .before in
-    omega (arith, step-low _ _ _ _ _ _ _ (l .before .nine-on .ensures) (l .loop .inv) _ refl (omega arith) (omega arith) (omega arith))
+    omega (arith, step-low _ _ _ _ _ _ _ (l .before .nine-on .ensures) (l .loop .inv) _ (c .before .before .wide .ensures) (omega arith) (omega arith) (omega arith))
+
+sub-a : tie.Need-sub-a Inv-loop μ-loop
+sub-a c = search needs
 
 add-i : tie.Need-add-i Inv-loop μ-loop
 add-i c = search needs
@@ -103,7 +105,8 @@ loop-less c = search needs
 loop-again : tie.Need-loop-again Inv-loop μ-loop
 loop-again c =
     let l = c .before .before .before .before .before in
-    rw (c .wide .ensures) (more _ _ _ _ _ _ _ (l .before .nine-on .ensures) (l .loop .inv) _ refl (omega arith) (omega arith) (omega arith))
+    let z : l .loop .a * 10 + c .before .before .wide .result - 48 ≡ l .loop .a * 10 + (c .before .before .wide .result - 48) = omega arith in
+    rw z (more _ _ _ _ _ _ _ (l .before .nine-on .ensures) (l .loop .inv) _ (c .before .before .wide .ensures) (omega arith) (omega arith) (omega arith))
 
 span-requires : tie.Need-span-requires Inv-loop μ-loop
 span-requires c κs = search needs
@@ -126,12 +129,13 @@ run-at-spec =
     μ-loop
     nine-on-requires
     loop-holds
-    shared-slice-read-b
+    shared-slice-read-wide
+    wide-requires
     returns
     returns-2
     mul-a
-    wide-requires
     add-a
+    sub-a
     add-i
     loop-less
     loop-again
