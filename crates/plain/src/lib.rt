@@ -512,9 +512,9 @@ fn fn_tag(text: &[u8], i: usize, m: usize, p: usize, q: usize) -> Kept
     Kept::Tag(record(39, x.offset, x.size, y.offset, y.size, 0, 0, 0))
 }
 
-// The tag whose name stands from i to m and its parameter from p to q, \t apart.
-pub fn plain_at(text: &[u8], i: usize, m: usize, p: usize, q: usize) -> Kept
-    requires { ⌜ (i ≤ m) × (m ≤ p) × (p ≤ q) × (q ≤ length (now text)) × (q < 2 ^ 32) ⌝ }
+// The tag whose name, of that key, stands from i to m and its parameter from p to q, \t apart.
+pub fn plain_at(text: &[u8], key: u64, i: usize, m: usize, p: usize, q: usize) -> Kept
+    requires { ⌜ (key ≡ keyAt (now text) i m) × (i ≤ m) × (m ≤ p) × (p ≤ q) × (q ≤ length (now text)) × (q < 2 ^ 32) ⌝ }
     ensures { λ r. ⌜ r ≡ keptOf (plainAt (now (text .entry)) i m p q) ⌝ }
 {
     if is_fn(text, i, m) {
@@ -524,5 +524,5 @@ pub fn plain_at(text: &[u8], i: usize, m: usize, p: usize, q: usize) -> Kept
         let x = part_of(i + 1, m);
         return Kept::Tag(record(41, 1, x.offset, x.size, 0, 0, 0, 0));
     }
-    shaped(text, shape_of(key_at(text, i, m)), p, q)
+    shaped(text, shape_of(key), p, q)
 }

@@ -322,10 +322,15 @@ fn parse_one(text: &[u8], i: usize, h: Head, depth: usize, table: &mut [u32]) ->
     requires { ⌜ (h .name ≤ h .end) × (h .end ≤ h .p) × (h .p ≤ h .q) × (h .q ≤ length (now text)) × (length (now text) < 65536) ⌝ }
     ensures { λ r. ⌜ Told (now (table .entry)) (tagAt (tAt depth (now (text .entry))) (now (text .entry)) i h) (h .q - h .p + 1) r (now (table .exit)) ⌝ }
 {
-    if plain::key_at(text, h.name, h.end) == 0x74 {
+    let key = plain::key_at(text, h.name, h.end);
+    if key == 0x74 {
         return parse_t(text, h.p, h.q, depth, table);
     }
-    keep(i, plain::plain_at(text, h.name, h.end, h.p, h.q), table)
+    keep(
+        i,
+        plain::plain_at(text, key, h.name, h.end, h.p, h.q),
+        table,
+    )
 }
 
 // A \t: its tags go into the rest of the table behind its own record.

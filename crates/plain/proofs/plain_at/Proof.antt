@@ -38,9 +38,6 @@ returns-2 c =
     let b = c .before .before .before in
     rw (← b .before .before .is-fn .ensures, b .before .if1 .left, ← b .is-named-reset .ensures, c .before .before .if2 .taken, c .«record» .ensures, c .before .part-of .ensures)
 
-key-at-requires : tie.Need-key-at-requires
-key-at-requires c κs = search needs
-
 shape-of-requires : tie.Need-shape-of-requires
 shape-of-requires c κs = search needs
 
@@ -50,8 +47,8 @@ shaped-requires c κs = search needs
 returns-3 : tie.Need-returns-3
 unfolding plainAt
 returns-3 c =
-    let b = c .before .before .before .before in
-    rw (← b .before .before .is-fn .ensures, b .before .if1 .left, ← b .is-named-reset .ensures, c .before .before .before .if2 .left, c .shaped .ensures, c .before .shape-of .ensures, c .before .before .key-at .ensures) (bridge _ _ _ _)
+    let b = c .before .before .before in
+    rw (← b .before .before .is-fn .ensures, b .before .if1 .left, ← b .is-named-reset .ensures, c .before .before .if2 .left, c .shaped .ensures, c .before .shape-of .ensures, b .before .before .before .before .pre .0) (bridge _ _ _ _)
 
 pub plain-at-spec : {M : Type 1} → statement M
 plain-at-spec =
@@ -65,7 +62,6 @@ plain-at-spec =
     part-of-requires
     record-requires
     returns-2
-    key-at-requires
     shape-of-requires
     shaped-requires
     returns-3)
