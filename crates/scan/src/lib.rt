@@ -337,9 +337,8 @@ pub fn closing(text: &[u8], from: usize, to: usize) -> usize
     let mut i = from;
     let mut k: usize = 1;
     while i < to {
-        if text[i] > 41 {
-            i = clear(text, i + 1, to);
-        } else {
+        i = clear(text, i, to);
+        if i < to {
             k = opened(text[i], k);
             if k == 0 {
                 return i;
