@@ -884,7 +884,7 @@ fn draw_by(text: &[u8], exponent: u32, scratch: &mut [u32], path: &mut [u32]) ->
             if n > least(path.len() / 8, 1024) {
                 return Drawing::Refused(refusal::Refusal::NoRoom(n));
             }
-            tag::copy(scratch, 8 * n, path);
+            tag::copy(scratch, n, path);
             Drawing::Drawn(n)
         }
     }

@@ -421,7 +421,7 @@ fn read_by(text: &[u8], from: usize, to: usize, scratch: &mut [u32], table: &mut
     match answer {
         Reading::Refused(r) => Reading::Refused(r),
         Reading::Read(n) => {
-            tag::copy(scratch, 8 * n, table);
+            tag::copy(scratch, n, table);
             Reading::Read(n)
         }
     }

@@ -113,11 +113,14 @@ length-words [] = refl
 length-words (r ∷ rs) = let i = length-words rs in omega arith
 
 -- one word more is copied
-pub copied-more : (s t : List ℕ) (i : ℕ) → i < length s → i < length t → set (take i s ++ drop i t) i (getD s i 0) ≡ take (i + 1) s ++ drop (i + 1) t
+copied-more : (s t : List ℕ) (i : ℕ) → i < length s → i < length t → set (take i s ++ drop i t) i (getD s i 0) ≡ take (i + 1) s ++ drop (i + 1) t
 copied-more s t i h k =
     let l : length (take i s) ≡ i = length-take-le i s (omega arith) in
     rw (add-one i, drop-cons t i 0 k, take-suc s i 0 h, append-assoc)
     (set-at (take i s) (getD t i 0) (drop (suc i) t) (getD s i 0) i l)
+
+pub copied-at : (s t l : List ℕ) (i j : ℕ) → l ≡ take i s ++ drop i t → j ≡ i + 1 → i < length s → i < length t → set l i (getD s i 0) ≡ take j s ++ drop j t
+copied-at s t l i j e q h k = rw (e, q) (copied-more s t i h k)
 
 -- records that are copied from a table with room for them to another are as if written there
 pub laid-copied : (rs : List Record) (s t : List ℕ) → 8 * length rs ≤ length s → 8 * length rs ≤ length t → take (8 * length rs) (laid s rs) ++ drop (8 * length rs) t ≡ laid t rs

@@ -25,9 +25,6 @@ same-length c = search needs
 returns : tie.Need-returns
 returns c = answered-full _ _ _ (c .before .before .before .before .before .before .before .before .before .before .before .before .pre .0) (c .before .before .before .before .before .before .before .before .before .before .before .before .pre .1) (c .before .before .before .before .before .before .draw .ensures .0) (c .before .before .enum-told .given .1) (c .before .before .before .before .before .before .before .before .scale-of .ensures) (c .before .before .before .before .before .before .draw .ensures .1) (c .before .least .ensures) (c .if1 .taken)
 
-mul-copy : tie.Need-mul-copy
-mul-copy c = omega (arith, c .before .if1 .left, c .before .before .least .ensures)
-
 copy-requires : tie.Need-copy-requires
 copy-requires c κs = let r = room _ _ _ _ _ _ (c .before .before .if1 .left) (c .before .before .before .least .ensures) (c .before .before .before .before .before .before .before .before .draw .ensures .2) (c .before .before .before .before .before .before .before .before .draw .ensures .3) (c .before .before .before .before .before .before .before .before .before .before .before .before .before .before .pre .2) in (r .1, r .2)
 
@@ -60,7 +57,6 @@ draw-by-spec =
     least-requires
     same-length
     returns
-    mul-copy
     copy-requires
     same-length-2
     returns-2

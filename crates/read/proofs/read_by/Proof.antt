@@ -17,11 +17,6 @@ enum-known-answer c = search needs
 enum-known-answer-2 : tie.Need-enum-known-answer-2
 enum-known-answer-2 c = search needs
 
-mul-copy : tie.Need-mul-copy
-mul-copy c =
-    let r = room _ _ (c .before .before .before .before .before .before .before .before .before .before .before .before .args .table .now) _ _ _ _ (c .before .before .before .before .before .before .before .before .before .before .before .before .pre .2) (c .before .before .before .before .before .before .before .parse-overrides-depth .ensures) _ (sym (c .before .before .before .before .check-read .ensures) ∙ c .before .before .answer2 .given .1) in
-    omega (arith, r .2)
-
 copy-requires : tie.Need-copy-requires
 copy-requires c κs =
     let r = roomy _ _ (c .before .before .before .before .before .before .before .before .before .before .before .before .before .args .table .now) _ _ _ _ (c .before .before .before .before .before .before .before .before .before .before .before .before .before .pre .2) (c .before .before .before .before .before .before .before .before .parse-overrides-depth .ensures) _ (sym (c .before .before .before .before .before .check-read .ensures) ∙ c .before .before .before .answer2 .given .1) (c .before .before .before .before .before .before .before .before .before .before .before .before .before .pre .3) in
@@ -53,7 +48,6 @@ read-by-spec =
     check-read-requires
     enum-known-answer
     enum-known-answer-2
-    mul-copy
     copy-requires
     same-length
     returns

@@ -45,9 +45,13 @@ loop-again : tie.Need-loop-again Inv-loop μ-loop
 loop-again c =
     let l = c .before .before .before .before .before .before .loop in
     let w = c .before .before .before .before .clear .ensures in
-    let k = c .before .opened .result in
-    (omega (arith, w .low, l .inv .0), omega (arith, c .before .before .before .if1 .taken), omega (arith, c .if2 .left), omega (arith, c .before .opened .ensures .1, w .low, l .inv .3, l .inv .0),
-     l .inv .4 ∙ passed-closing _ _ _ _ _ (l .inv .2) w ∙ closing-go _ _ _ _ k (c .before .before .before .if1 .taken) (sym (c .before .opened .ensures .0)) (c .if2 .left))
+    let k = c .before .opened .result in (
+      omega (arith, w .low, l .inv .0),
+      omega (arith, c .before .before .before .if1 .taken),
+      omega (arith, c .if2 .left),
+      omega (arith, c .before .opened .ensures .1, w .low, l .inv .3, l .inv .0),
+      l .inv .4 ∙ passed-closing _ _ _ _ _ (l .inv .2) w ∙ closing-go _ _ _ _ k (c .before .before .before .if1 .taken) (sym (c .before .opened .ensures .0)) (c .if2 .left),
+    )
 
 loop-less-2 : tie.Need-loop-less-2 Inv-loop μ-loop
 loop-less-2 c = omega (arith, c .before .clear .ensures .low, c .if1 .left)
