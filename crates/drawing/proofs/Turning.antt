@@ -31,7 +31,7 @@ use Rattle.drawing.specs.declared.OnePoint.the-variants.{No as NoPoint, 
 use Rattle.drawing.specs.declared.ThreePoints.{ThreePoints}
 use Rattle.drawing.specs.declared.ThreePoints.the-variants.{No as NoThree, At as ThreeAt}
 use Rattle.drawing.specs.Tokens.{isLetter, from, untilLetter, Follows}
-use Rattle.drawing.specs.Drawing.{f0, f1, f2, f4, scaleOf, bez, spanEnd, spanOf, bareBy, bareTurn, none1, point, scaled, second, readPoint, thirdOf, secondOf, moveTo, cubicTo, closed, turned, penOf, onPoint, settled, pointed, curve, movesTo, read1, Behind1, Emits, ReadsPoint, ReadsThree, Stroked, Turns}
+use Rattle.drawing.specs.Drawing.{f0, f1, f2, f4, scaleOf, bez, spanEnd, spanOf, bareBy, bareTurn, none1, point, scaled, second, readPoint, thirdOf, secondOf, lineTo, moveTo, cubicTo, closed, turned, penOf, onPoint, settled, pointed, curve, turnOf, movesTo, read1, Behind1, Emits, ReadsPoint, ReadsThree, Stroked, Turns}
 use Rattle.drawing.specs.Answer.{tokensGround}
 use Rattle.drawing.proofs.Emitting.{emits-none, emits-join}
 
@@ -195,6 +195,18 @@ module _ {s : List ℕ} {k : Float} {i j : ℕ} {t : List ℕ} {n : ℕ} (pen : 
 module _ {s : List ℕ} {i : ℕ} {t : List ℕ} {n : ℕ} {r : Stand} {u : List ℕ} (k : Float) (pen : Pen) (all ts : List Token) (m : Mode) where
   pub bare-by : pen .mode ≡ m → Turns s t n (bareBy m k pen all ts) i r u → Turns s t n (bareTurn k pen all ts) i r u
   bare-by e w = subst (λ (x : Mode). Turns s t n (bareBy x k pen all ts) i r u) (sym e) w
+
+-- a line to the point that begins with the token x
+pub line-turned : {s : List ℕ} {i j : ℕ} {t : List ℕ} {n : ℕ} {p : Point} {l m : ℕ} {u : List ℕ} (k : Float) (pen : Pen) (x : Token) (r : OnePoint) → NextIs s i x j → pen .mode ≡ Lines → Point-from s k x j r → r ≡ PointAt p l → Emits t n (lineTo p ∷ []) m u
+    → Turns s t n (turnOf x k pen (from s i) (from s j)) (i + 1) (record { pen = penOf p true Lines; n = m; next = l }) u
+line-turned {s} {i} {j} {t} {n} {p} {l} {m} {u} k pen (Number y) r v e f q w =
+    let g : ReadsPoint s k i r = point-from k v f in
+    let x : Stroke = record { pen = penOf p true Lines; n = m } in
+    let z : Stroked t n (onPoint pen p) x u = rw e (record { pen = refl; emits = w; few = omega (arith, w .count) }) in
+    bare-by k pen (from s i) (from s j) Lines e (pointed-some pen (v .low) (v .high) g q z)
+line-turned k pen (Letter b) r v e f q w = absurd (let z : _≡_ {A = ℕ} 0 1 = cc (rw q at (f .0)) in omega arith)
+line-turned k pen (Refused b) r v e f q w = absurd (let z : _≡_ {A = ℕ} 0 1 = cc (rw q at (f .0)) in omega arith)
+line-turned k pen Other r v e f q w = absurd (let z : _≡_ {A = ℕ} 0 1 = cc (rw q at (f .0)) in omega arith)
 
 module _ {s : List ℕ} {k : Float} {i : ℕ} {t : List ℕ} {n : ℕ} (closes : Bool) (pen : Pen) where
   pub moves-none : {r : OnePoint} → ReadsPoint s k i r → r ≡ NoPoint → i ≤ length s → Turns s t n (movesTo closes k pen (from s i)) i (record { pen = pen; n = n; next = i }) t

@@ -833,6 +833,23 @@ fn draw(text: &[u8], scale: f32, path: &mut [u32]) -> Traced
                     return Traced { ground, n: 0 };
                 };
                 let pen = at.pen;
+                let mode = pen.mode;
+                if let Mode::Lines = mode {
+                    let read = point_from(text, t, k, scale);
+                    if let OnePoint::At(p, next) = read {
+                        let m = line_to(p, at.n, path);
+                        at = Stand {
+                            pen: Pen {
+                                cur: p,
+                                opened: true,
+                                mode: Mode::Lines,
+                            },
+                            n: m,
+                            next,
+                        };
+                        continue;
+                    }
+                }
                 let after = turn(text, t, i, k, scale, pen, at.n, path);
                 at = after;
             }

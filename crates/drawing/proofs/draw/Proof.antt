@@ -1,6 +1,6 @@
 use Rattle.drawing.proofs.Grounds.{ground-turned, ground-stopped}
 use Rattle.drawing.proofs.Answering.{going-on}
-use Rattle.drawing.proofs.Turning.{next-is, next-end, ground-end}
+use Rattle.drawing.proofs.Turning.{next-is, next-end, ground-end, line-turned}
 use Rattle.drawing.proofs.Emitting.{emits-none, emits-length}
 use Rattle.drawing.proofs.Machine.{left, left-end}
 use Rattle.drawing.specs.Drawing.{Emits, draw as drawOf}
@@ -71,25 +71,59 @@ returns-2 c =
       l .inv .2,
     )
 
-turn-requires : tie.Need-turn-requires Inv-loop μ-loop
-turn-requires c κs =
-    let n = next-is (c .before .before .before .before .before .before .before .before .next-token .ensures) (c .before .before .before .before .before .before .next .given .1) in
-    let l = c .before .before .before .before .before .before .before .before .before .loop in
-    (n .low, n .high, omega (arith, l .inv .0, l .inv .1, c .before .before .before .before .before .before .before .before .before .before .before .before .pre), n .is)
+enum-told-4 : tie.Need-enum-told-4 Inv-loop μ-loop
+enum-told-4 c = search needs
+
+point-from-requires : tie.Need-point-from-requires Inv-loop μ-loop
+point-from-requires c κs = next-is (c .before .before .before .before .before .before .before .before .before .next-token .ensures) (c .before .before .before .before .before .before .before .next .given .1) .high
+
+enum-known-read : tie.Need-enum-known-read Inv-loop μ-loop
+enum-known-read c = search needs
+
+line-to-requires : tie.Need-line-to-requires Inv-loop μ-loop
+line-to-requires c κs = let l = c .before .before .before .before .before .before .before .before .before .before .before .before .before .before .before .loop in omega (arith, l .inv .0, l .inv .1, c .before .before .before .before .before .before .before .before .before .before .before .before .before .before .before .before .before .before .pre)
 
 loop-less : tie.Need-loop-less Inv-loop μ-loop
-loop-less c = let w = c .before .before .turn .ensures in omega (arith, w .low, w .high)
+loop-less c =
+    let l = c .before .before .before .before .before .before .before .before .before .before .before .before .before .before .before .before .before .before .loop in
+    let n = next-is (c .before .before .before .before .before .before .before .before .before .before .before .before .before .before .before .before .before .next-token .ensures) (c .before .before .before .before .before .before .before .before .before .before .before .before .before .before .before .next .given .1) in
+    let w = line-turned (c .before .before .before .before .before .before .before .before .before .before .before .before .before .before .before .before .before .before .before .before .before .args .scale) (l .at .pen) _ _ n (c .before .before .before .before .before .before .before .before .enum-told4 .given .1) (c .before .before .before .before .before .before .before .point-from .ensures) (c .before .before .before .before .before .read .given .1) (c .before .before .line-to .ensures) in
+    omega (arith, w .low, w .high)
 
 loop-again : tie.Need-loop-again Inv-loop μ-loop
 loop-again c =
-    let l = c .before .before .before .before .before .before .before .before .before .before .before .before .loop in
-    let w = c .before .before .turn .ensures in
-    let n = next-is (c .before .before .before .before .before .before .before .before .before .before .before .next-token .ensures) (c .before .before .before .before .before .before .before .before .before .next .given .1) in (
+    let l = c .before .before .before .before .before .before .before .before .before .before .before .before .before .before .before .before .before .before .loop in
+    let n = next-is (c .before .before .before .before .before .before .before .before .before .before .before .before .before .before .before .before .before .next-token .ensures) (c .before .before .before .before .before .before .before .before .before .before .before .before .before .before .before .next .given .1) in
+    let w = line-turned (c .before .before .before .before .before .before .before .before .before .before .before .before .before .before .before .before .before .before .before .before .before .args .scale) (l .at .pen) _ _ n (c .before .before .before .before .before .before .before .before .enum-told4 .given .1) (c .before .before .before .before .before .before .before .point-from .ensures) (c .before .before .before .before .before .read .given .1) (c .before .before .line-to .ensures) in (
       w .high,
       omega (arith, w .low, w .few, l .inv .1),
       emits-length (w .emits) ∙ l .inv .2,
       λ v m e. l .inv .3 v m (going-on _ _ _ n w e),
-      l .inv .4 ∙ ground-turned (c .before .before .before .before .before .before .before .before .before .before .before .before .before .before .before .args .scale) (l .at .pen) _ n (c .before .before .before .before .before .before .before .turn-ground .ensures) _ (c .before .before .before .before .before .enum-told2 .given .1) (w .rest),
+      l .inv .4 ∙ ground-turned (c .before .before .before .before .before .before .before .before .before .before .before .before .before .before .before .before .before .before .before .before .before .args .scale) (l .at .pen) _ n (c .before .before .before .before .before .before .before .before .before .before .before .before .before .turn-ground .ensures) _ (c .before .before .before .before .before .before .before .before .before .before .before .enum-told2 .given .1) (w .rest),
+    )
+
+enum-told-5 : tie.Need-enum-told-5 Inv-loop μ-loop
+enum-told-5 c = search needs
+
+turn-requires : tie.Need-turn-requires Inv-loop μ-loop
+turn-requires c κs =
+    let n = next-is (c .before .before .before .before .before .before .before .before .before .next-token .ensures) (c .before .before .before .before .before .before .before .next .given .1) in
+    let l = c .before .before .before .before .before .before .before .before .before .before .loop in
+    (n .low, n .high, omega (arith, l .inv .0, l .inv .1, c .before .before .before .before .before .before .before .before .before .before .before .before .before .pre), n .is)
+
+loop-less-2 : tie.Need-loop-less-2 Inv-loop μ-loop
+loop-less-2 c = let w = c .before .before .turn .ensures in omega (arith, w .low, w .high)
+
+loop-again-2 : tie.Need-loop-again-2 Inv-loop μ-loop
+loop-again-2 c =
+    let l = c .before .before .before .before .before .before .before .before .before .before .before .before .before .loop in
+    let w = c .before .before .turn .ensures in
+    let n = next-is (c .before .before .before .before .before .before .before .before .before .before .before .before .next-token .ensures) (c .before .before .before .before .before .before .before .before .before .before .next .given .1) in (
+      w .high,
+      omega (arith, w .low, w .few, l .inv .1),
+      emits-length (w .emits) ∙ l .inv .2,
+      λ v m e. l .inv .3 v m (going-on _ _ _ n w e),
+      l .inv .4 ∙ ground-turned (c .before .before .before .before .before .before .before .before .before .before .before .before .before .before .before .before .args .scale) (l .at .pen) _ n (c .before .before .before .before .before .before .before .before .turn-ground .ensures) _ (c .before .before .before .before .before .before .enum-told2 .given .1) (w .rest),
     )
 
 pub draw-spec : {M : Type 1} → statement M
@@ -109,6 +143,13 @@ draw-spec =
     enum-told-3
     same-length-2
     returns-2
-    turn-requires
+    enum-told-4
+    point-from-requires
+    enum-known-read
+    line-to-requires
     loop-less
-    loop-again)
+    loop-again
+    enum-told-5
+    turn-requires
+    loop-less-2
+    loop-again-2)
