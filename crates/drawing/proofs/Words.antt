@@ -1,16 +1,17 @@
 -- One token after the other.
-use mathlib.Core.Path.{_≡_, refl}
+use mathlib.Core.Path.{_≡_, refl, sym, ap, _∙_}
 use mathlib.Core.List.{List, [], _∷_}
-use mathlib.Core.Bool.{false}
+use mathlib.Core.Bool.{true, false}
 use Prim.Native.Nat.{ℕ, zero, suc, _+_, _-_, _≤_, _<_}
 use native.Mathlib.Omega.{arith}
 use native.Mathlib.Nat.{le-refl}
 use native.Mathlib.Numerals.{add-one}
-use lib.Dec.{eqb}
+use lib.Dec.{eqb, ltb}
 use lib.Ieee.{Float, binary32, toBits, ofBits}
 use lib.ListN.{length, getD, drop}
 use lib.Seq.{drop-cons}
-use borrow.Author.Tests.{eq-eqb, ne-eqb, lt-ltb, le-ltb}
+use borrow.Author.Tests.{eq-eqb, ne-eqb, lt-ltb, le-ltb, le-leb, lt-leb, ltb-true}
+use Rattle.scan.specs.Passed.{Passed}
 use Rattle.scan.specs.Scan.{blankAt, trimStart, trimEnd}
 use Rattle.scan.proofs.Laws.{picked, skip-low, blank-at-fits}
 use Rattle.numeral.specs.Numeral.{F32, none, tooLong, number, f32At, wordOfF32}
@@ -67,6 +68,28 @@ module _ (s : List ℕ) (i : ℕ) where
   word-go w h e q =
       let z : length s - i ≡ suc (length s - (i + 1)) = omega arith in
       rw (z, ← e, eq-eqb w 0 q)
+
+-- bytes above 32 are no blanks
+no-blank : (s : List ℕ) (i : ℕ) → i < length s → ltb 32 (getD s i 0) ≡ true → blankAt s i (length s) ≡ 0
+unfolding blankAt
+no-blank s i h t =
+    let b = getD s i 0 in
+    let g : 32 < b = ltb-true 32 b t in
+    rw (lt-ltb i (length s) h, ne-eqb b 32 (λ z. omega arith), le-leb 9 b (omega arith), lt-leb b 13 (omega arith))
+
+word-over : (s : List ℕ) (n i : ℕ) → i + n ≤ length s → ((j : ℕ) → i ≤ j → j < i + n → ltb 32 (getD s j 0) ≡ true) → tokenEnd s i ≡ tokenEnd s (i + n)
+word-over s zero i h f = let z : i ≡ i + 0 = omega arith in ap (tokenEnd s) z
+word-over s (suc n) i h f =
+    let z : i + 1 + n ≡ i + suc n = omega arith in
+    word-go s i 0 (omega arith) (sym (no-blank s i (omega arith) (f i (le-refl i) (omega arith)))) refl
+    ∙ word-over s n (i + 1) (omega arith) (λ j a b. f j (omega arith) (omega arith))
+    ∙ ap (tokenEnd s) z
+
+pub passed-word : (s : List ℕ) (i r : ℕ) → Passed (λ b. ltb 32 b) s i (length s) r → tokenEnd s i ≡ tokenEnd s r
+passed-word s i r f =
+    let l = f .low in
+    let z : i + (r - i) ≡ r = omega arith in
+    word-over s (r - i) i (omega (arith, f .high)) (λ j a b. f .all j a (omega arith)) ∙ ap (tokenEnd s) z
 
 word-low : (s : List ℕ) (n i : ℕ) → i ≤ wordEnd s n i
 unfolding wordEnd

@@ -189,7 +189,7 @@ fn token_end(text: &[u8], i: usize) -> usize
     requires { ⌜ i ≤ length (now text) ⌝ }
     ensures { λ r. ⌜ (r ≡ tokenEnd (now (text .entry)) i) × (i ≤ r) × (r ≤ length (now (text .entry))) ⌝ }
 {
-    let mut k = i;
+    let mut k = scan::clear(text, 32, i, text.len());
     while k < text.len() {
         if scan::blank_at(text, k, text.len()) != 0 {
             return k;

@@ -217,6 +217,9 @@ pub fn span_back(text: &[u8], class: Class, from: usize, to: usize) -> usize
 fn is_blank(b: u8) -> bool
     ensures { λ r. ⌜ r ≡ isBlank b ⌝ }
 {
+    if b > 32 {
+        return false;
+    }
     b == 32 || (b >= 9 && b <= 13)
 }
 
@@ -302,26 +305,26 @@ fn opened(b: u8, k: usize) -> usize
     }
 }
 
-// A place from `from` on, with no byte below 42 and so no parenthesis before it: at the first one, or less than four places before `to`.
-fn clear(text: &[u8], from: usize, to: usize) -> usize
+// A place from `from` on, with no byte up to x before it: at the first one, or less than four places before `to`.
+pub fn clear(text: &[u8], x: u8, from: usize, to: usize) -> usize
     requires { ⌜ (from ≤ to) × (to ≤ length (now text)) ⌝ }
-    ensures { λ r. ⌜ Passed (λ b. ltb 41 b) (now (text .entry)) from to r ⌝ }
+    ensures { λ r. ⌜ Passed (λ b. ltb x b) (now (text .entry)) from to r ⌝ }
 {
     let mut i = from;
     while to - i >= 4 {
-        if text[i] <= 41 {
+        if text[i] <= x {
             return i;
         }
         let j = i + 1;
-        if text[j] <= 41 {
+        if text[j] <= x {
             return j;
         }
         let k = i + 2;
-        if text[k] <= 41 {
+        if text[k] <= x {
             return k;
         }
         let l = i + 3;
-        if text[l] <= 41 {
+        if text[l] <= x {
             return l;
         }
         i += 4;
@@ -337,7 +340,7 @@ pub fn closing(text: &[u8], from: usize, to: usize) -> usize
     let mut i = from;
     let mut k: usize = 1;
     while i < to {
-        i = clear(text, i, to);
+        i = clear(text, 41, i, to);
         if i < to {
             k = opened(text[i], k);
             if k == 0 {

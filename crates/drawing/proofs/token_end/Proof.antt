@@ -1,4 +1,4 @@
-use Rattle.drawing.proofs.Words.{word-end, word-stop, word-go}
+use Rattle.drawing.proofs.Words.{word-end, word-stop, word-go, passed-word}
 use Rattle.drawing.specs.Tokens.{tokenEnd}
 use lib.ListN.{length}
 use Prim.Native.Nat.{_≤_, _-_}
@@ -13,8 +13,11 @@ Inv-loop text i k₀ k = (i ≤ k) × (k ≤ length text) × (tokenEnd text i �
 abbrev μ-loop : tie.MeasureT-loop
 μ-loop text i k₀ k = length text - k
 
+clear-requires : tie.Need-clear-requires Inv-loop μ-loop
+clear-requires c κs = search needs
+
 loop-holds : tie.Need-loop-holds Inv-loop μ-loop
-loop-holds c = search needs
+loop-holds c = let w = c .clear .ensures in (w .low, w .high, passed-word _ _ _ w)
 
 blank-at-requires : tie.Need-blank-at-requires Inv-loop μ-loop
 blank-at-requires c κs = search needs
@@ -40,6 +43,7 @@ token-end-spec =
     (tie.spec
     Inv-loop
     μ-loop
+    clear-requires
     loop-holds
     blank-at-requires
     returns
