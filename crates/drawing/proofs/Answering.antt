@@ -1,14 +1,17 @@
 -- From turns to a drawing, and from a drawing to the answer.
 use mathlib.Core.Path.{_≡_, sym, subst, _∙_}
-use mathlib.Core.List.{List, _++_}
+use mathlib.Core.List.{List, [], _∷_, _++_}
 use mathlib.Core.Bool.{false}
 use mathlib.Core.Logic.{⊎-elim}
-use Prim.Native.Nat.{ℕ, _*_, _/_, _≤_, _<_, min}
+use Prim.Native.Nat.{ℕ, zero, suc, _+_, _-_, _*_, _/_, _≤_, _<_, min}
 use native.Mathlib.Omega.{arith}
+use native.Mathlib.Nat.{le-refl}
+use lib.Dec.{ltb}
 use lib.Ieee.{Float}
 use lib.ListN.{length, take, drop}
 use borrow.Author.Tests.{lt-ltb, le-ltb}
-use Rattle.scan.proofs.Laws.{le-or-lt}
+use Rattle.scan.specs.Scan.{trimStart}
+use Rattle.scan.proofs.Laws.{le-or-lt, picked}
 use Rattle.refusal.specs.declared.Refusal.{Refusal}
 use Rattle.refusal.specs.declared.Refusal.the-variants.{ScaleTooLarge, NoRoom}
 use Rattle.tag.specs.declared.Record.{Record}
@@ -21,12 +24,12 @@ use Rattle.drawing.specs.declared.Command.{Command}
 use Rattle.refusal.specs.declared.Checked.{Checked}
 use Rattle.refusal.specs.declared.Checked.the-variants.{Good, Bad}
 use Rattle.drawing.specs.declared.Drawing.the-variants.{Drawn, Refused}
-use Rattle.drawing.specs.Tokens.{from}
+use Rattle.drawing.specs.Tokens.{from, tokens, tokenOf, tokenEnd}
 use Rattle.drawing.specs.Drawing.{scaleOf, settled, continues, command, commandOf, letterTurn, turnOf, Turn, draw, Emits, Turns}
 use Rattle.drawing.specs.Answer.{tokensGround, unless, ground, drawing, answer, after, Answered}
 use Rattle.refusal.specs.Refusal.{textGround}
 use Rattle.drawing.proofs.Emitting.{emits-all, emits-join}
-use Rattle.drawing.proofs.Machine.{left, left-turn}
+use Rattle.drawing.proofs.Machine.{left, left-turn, few-commands}
 use Rattle.drawing.proofs.Turning.{NextIs}
 
 -- a letter that does not continue a spline
@@ -61,8 +64,25 @@ short-text s e =
     (λ (h : 12288 < length s). absurd (let z : _≡_ {A = ℕ} 0 1 = cc (rw (lt-ltb 12288 (length s) h) at e) in omega arith))
     (le-or-lt (length s) 12288)
 
+-- there are no more commands than tokens, and no more tokens than bytes
+few-tokens : (s : List ℕ) (n i : ℕ) → length (tokens s n i) ≤ n
+unfolding tokens
+few-tokens s zero i = le-refl 0
+few-tokens s (suc n) i =
+    let a = trimStart s i (length s) in
+    let b = tokenEnd s (a + 1) in
+    let h = few-tokens s n b in
+    picked (λ (l : List Token). length l ≤ suc n) (ltb a (length s)) (tokenOf s a b ∷ tokens s n b) [] (omega arith) (omega arith)
+
+pub few : {c : Checked} {n : ℕ} {w v : List ℕ} (s : List ℕ) (k : Float) → c ≡ Good → (c ≡ Good → Emits w 0 (draw k (from s 0)) n v) → n ≤ length s
+few s k q z =
+    let e = z q .count in
+    let a = few-commands k (from s 0) in
+    let b = few-tokens s (length s - 0) 0 in
+    omega arith
+
 -- n commands have room in the scratch path, of w words before the run and v after it, and in one of t words
-pub room : (n m l w v t : ℕ) → n ≤ m → m ≡ min (t / 8) 1024 → n ≤ 2 * l → v ≡ w → 8 * min (2 * l) 1024 ≤ w → (8 * n ≤ w) × (8 * n ≤ v) × (8 * n ≤ t)
+pub room : (n m l w v t : ℕ) → n ≤ m → m ≡ min (t / 8) 1024 → n ≤ l → v ≡ w → 8 * min l 1024 ≤ w → (8 * n ≤ w) × (8 * n ≤ v) × (8 * n ≤ t)
 room n m l w v t a b c d e = (omega arith, omega arith, omega arith)
 
 module _ (s t : List ℕ) (x : ℕ) where

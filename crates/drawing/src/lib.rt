@@ -889,7 +889,7 @@ fn scale_of(exponent: u32) -> f32
 
 // Draws into the scratch path and, if nothing stands against it, copies the commands into the lent one.
 fn draw_by(text: &[u8], exponent: u32, scratch: &mut [u32], path: &mut [u32]) -> Drawing
-    requires { ⌜ (textGround (now text) ≡ Good) × (exponent ≤ 32) × (8 * min (2 * length (now text)) 1024 ≤ length (now scratch)) ⌝ }
+    requires { ⌜ (textGround (now text) ≡ Good) × (exponent ≤ 32) × (8 * min (length (now text)) 1024 ≤ length (now scratch)) ⌝ }
     ensures { λ r. ⌜ Answered (now (text .entry)) exponent (now (path .entry)) r (now (path .exit)) ⌝ }
 {
     let drawn = draw(text, scale_of(exponent), scratch);
@@ -929,15 +929,15 @@ pub fn parse_drawing(text: &[u8], exponent: u32, path: &mut [u32]) -> Drawing
             if exponent > 32 {
                 return Drawing::Refused(too_large(text));
             }
-            if text.len() <= 32 {
-                let mut scratch = [0u32; 512];
+            if text.len() <= 64 {
+                let mut scratch = [1u32; 512];
                 return draw_by(text, exponent, &mut scratch, path);
             }
-            if text.len() <= 128 {
-                let mut scratch = [0u32; 2048];
+            if text.len() <= 256 {
+                let mut scratch = [1u32; 2048];
                 return draw_by(text, exponent, &mut scratch, path);
             }
-            let mut scratch = [0u32; 8192];
+            let mut scratch = [1u32; 8192];
             draw_by(text, exponent, &mut scratch, path)
         }
     }

@@ -437,14 +437,14 @@ fn read_span(text: &[u8], from: usize, to: usize, table: &mut [u32]) -> Reading
         refusal::Checked::Bad(r) => Reading::Refused(r),
         refusal::Checked::Good => {
             if to - from <= 64 {
-                let mut scratch = [0u32; 512];
+                let mut scratch = [1u32; 512];
                 return read_by(text, from, to, &mut scratch, table);
             }
             if to - from <= 256 {
-                let mut scratch = [0u32; 2048];
+                let mut scratch = [1u32; 2048];
                 return read_by(text, from, to, &mut scratch, table);
             }
-            let mut scratch = [0u32; 8192];
+            let mut scratch = [1u32; 8192];
             read_by(text, from, to, &mut scratch, table)
         }
     }

@@ -1,5 +1,5 @@
 use native.Mathlib.Omega.{arith}
-use Rattle.drawing.proofs.Answering.{short-text, room, answered-token, answered-full, answered-drawn}
+use Rattle.drawing.proofs.Answering.{short-text, few, room, answered-token, answered-full, answered-drawn}
 use borrow.Author.Needs.{needs}
 use Rattle.drawing.proofs.draw_by.Statement.{statement}
 use Rattle.drawing.proofs.draw_by.Tie as tie
@@ -26,7 +26,7 @@ returns : tie.Need-returns
 returns c = answered-full _ _ _ (c .before .before .before .before .before .before .before .before .before .before .before .before .pre .0) (c .before .before .before .before .before .before .before .before .before .before .before .before .pre .1) (c .before .before .before .before .before .before .draw .ensures .0) (c .before .before .enum-told .given .1) (c .before .before .before .before .before .before .before .before .scale-of .ensures) (c .before .before .before .before .before .before .draw .ensures .1) (c .before .least .ensures) (c .if1 .taken)
 
 copy-requires : tie.Need-copy-requires
-copy-requires c κs = let r = room _ _ _ _ _ _ (c .before .before .if1 .left) (c .before .before .before .least .ensures) (c .before .before .before .before .before .before .before .before .draw .ensures .2) (c .before .before .before .before .before .before .before .before .draw .ensures .3) (c .before .before .before .before .before .before .before .before .before .before .before .before .before .before .pre .2) in (r .1, r .2)
+copy-requires c κs = let r = room _ _ _ _ _ _ (c .before .before .if1 .left) (c .before .before .before .least .ensures) (few _ _ (c .before .before .before .before .enum-told .given .1) (c .before .before .before .before .before .before .before .before .draw .ensures .1)) (c .before .before .before .before .before .before .before .before .draw .ensures .3) (c .before .before .before .before .before .before .before .before .before .before .before .before .before .before .pre .2) in (r .1, r .2)
 
 same-length-2 : tie.Need-same-length-2
 same-length-2 c = search needs
@@ -42,7 +42,7 @@ same-length-4 c = search needs
 
 returns-3 : tie.Need-returns-3
 returns-3 c =
-    let r = room _ _ _ _ _ _ (c .before .before .before .before .before .if1 .left) (c .before .before .before .before .before .before .least .ensures) (c .before .before .before .before .before .before .before .before .before .before .before .draw .ensures .2) (c .before .before .before .before .before .before .before .before .before .before .before .draw .ensures .3) (c .before .before .before .before .before .before .before .before .before .before .before .before .before .before .before .before .before .pre .2) in
+    let r = room _ _ _ _ _ _ (c .before .before .before .before .before .if1 .left) (c .before .before .before .before .before .before .least .ensures) (few _ _ (c .before .before .before .before .before .before .before .enum-told .given .1) (c .before .before .before .before .before .before .before .before .before .before .before .draw .ensures .1)) (c .before .before .before .before .before .before .before .before .before .before .before .draw .ensures .3) (c .before .before .before .before .before .before .before .before .before .before .before .before .before .before .before .before .before .pre .2) in
     rw (c .before .before .copy .ensures)
     (answered-drawn _ _ _ (c .before .before .before .before .before .before .before .before .before .before .before .before .before .before .before .before .before .pre .0) (c .before .before .before .before .before .before .before .before .before .before .before .before .before .before .before .before .before .pre .1) (c .before .before .before .before .before .before .before .before .before .before .before .draw .ensures .0) (c .before .before .before .before .before .before .before .enum-told .given .1) (c .before .before .before .before .before .before .before .before .before .before .before .before .before .scale-of .ensures) (c .before .before .before .before .before .before .before .before .before .before .before .draw .ensures .1) (c .before .before .before .before .before .before .least .ensures) (c .before .before .before .before .before .if1 .left) (r .0) (r .2))
 
