@@ -22,7 +22,8 @@ use Rattle.drawing.specs.declared.Next.{Next}
 use Rattle.drawing.specs.declared.Next.the-variants.{End, Is}
 use Rattle.drawing.specs.declared.Point.{Point}
 use Rattle.drawing.specs.declared.Mode.{Mode}
-use Rattle.drawing.specs.declared.Mode.the-variants.{Lines, Cubics}
+use Rattle.drawing.specs.declared.Mode.the-variants.{Idle, Lines, Cubics, Spline}
+use Rattle.drawing.specs.declared.Ctrl.{Ctrl}
 use Rattle.drawing.specs.declared.Pen.{Pen}
 use Rattle.drawing.specs.declared.Stroke.{Stroke}
 use Rattle.drawing.specs.declared.Stand.{Stand}
@@ -31,7 +32,7 @@ use Rattle.drawing.specs.declared.OnePoint.the-variants.{No as NoPoint, 
 use Rattle.drawing.specs.declared.ThreePoints.{ThreePoints}
 use Rattle.drawing.specs.declared.ThreePoints.the-variants.{No as NoThree, At as ThreeAt}
 use Rattle.drawing.specs.Tokens.{isLetter, from, untilLetter, Follows}
-use Rattle.drawing.specs.Drawing.{f0, f1, f2, f4, scaleOf, bez, spanEnd, spanOf, bareBy, bareTurn, none1, point, scaled, second, readPoint, thirdOf, secondOf, lineTo, moveTo, cubicTo, closed, turned, penOf, onPoint, settled, pointed, curve, turnOf, movesTo, read1, Behind1, Emits, ReadsPoint, ReadsThree, Stroked, Turns}
+use Rattle.drawing.specs.Drawing.{f0, f1, f2, f4, scaleOf, bez, spanEnd, spanOf, bareBy, bareTurn, none1, point, scaled, second, readPoint, thirdOf, secondOf, lineTo, moveTo, cubicTo, closed, turned, penOf, byMode, onPoint, splinePoint, settled, pointed, curve, turnOf, movesTo, read1, Behind1, Emits, ReadsPoint, ReadsThree, Stroked, Turns}
 use Rattle.drawing.specs.Answer.{tokensGround}
 use Rattle.drawing.proofs.Emitting.{emits-none, emits-join}
 
@@ -196,17 +197,40 @@ module _ {s : List ℕ} {i : ℕ} {t : List ℕ} {n : ℕ} {r : Stand} {u : List
   pub bare-by : pen .mode ≡ m → Turns s t n (bareBy m k pen all ts) i r u → Turns s t n (bareTurn k pen all ts) i r u
   bare-by e w = subst (λ (x : Mode). Turns s t n (bareBy x k pen all ts) i r u) (sym e) w
 
--- a line to the point that begins with the token x
+-- a point that begins with the token x, in a mode that takes points
+abbrev pub takes-points : Mode → Type 0
+takes-points Idle = ⊥
+takes-points Lines = Unit
+takes-points Cubics = ⊥
+takes-points (Spline c) = Unit
+
+pointed-by : (s t u : List ℕ) (i j n : ℕ) (k : Float) (pen : Pen) (x : Stand) (m : Mode) → takes-points m → Turns s t n (pointed k pen (from s i) (from s j)) (i + 1) x u → Turns s t n (bareBy m k pen (from s i) (from s j)) (i + 1) x u
+pointed-by s t u i j n k pen x Idle h w = absurd h
+pointed-by s t u i j n k pen x Lines h w = w
+pointed-by s t u i j n k pen x Cubics h w = absurd h
+pointed-by s t u i j n k pen x (Spline c) h w = w
+
+module _ {s : List ℕ} {i j : ℕ} {t : List ℕ} {n : ℕ} {u : List ℕ} (k : Float) (pen : Pen) where
+  pub point-turned : {p : Point} {l : ℕ} {x : Stroke} (y : Token) (r : OnePoint) (m : Mode) → takes-points m → NextIs s i y j → pen .mode ≡ m → Point-from s k y j r → r ≡ PointAt p l → Stroked t n (byMode m pen p) x u
+      → Turns s t n (turnOf y k pen (from s i) (from s j)) (i + 1) (record { pen = x .pen; n = x .n; next = l }) u
+  point-turned {p} {l} {x} (Number z) r m h v e f q w =
+      let g : ReadsPoint s k i r = point-from k v f in
+      let o : Stroked t n (onPoint pen p) x u = subst (λ (y : Mode). Stroked t n (byMode y pen p) x u) (sym e) w in
+      bare-by k pen (from s i) (from s j) m e (pointed-by s t u i j n k pen _ m h (pointed-some pen (v .low) (v .high) g q o))
+  point-turned (Letter b) r m h v e f q w = absurd (let z : _≡_ {A = ℕ} 0 1 = cc (rw q at (f .0)) in omega arith)
+  point-turned (Refused b) r m h v e f q w = absurd (let z : _≡_ {A = ℕ} 0 1 = cc (rw q at (f .0)) in omega arith)
+  point-turned Other r m h v e f q w = absurd (let z : _≡_ {A = ℕ} 0 1 = cc (rw q at (f .0)) in omega arith)
+
 pub line-turned : {s : List ℕ} {i j : ℕ} {t : List ℕ} {n : ℕ} {p : Point} {l m : ℕ} {u : List ℕ} (k : Float) (pen : Pen) (x : Token) (r : OnePoint) → NextIs s i x j → pen .mode ≡ Lines → Point-from s k x j r → r ≡ PointAt p l → Emits t n (lineTo p ∷ []) m u
     → Turns s t n (turnOf x k pen (from s i) (from s j)) (i + 1) (record { pen = penOf p true Lines; n = m; next = l }) u
-line-turned {s} {i} {j} {t} {n} {p} {l} {m} {u} k pen (Number y) r v e f q w =
-    let g : ReadsPoint s k i r = point-from k v f in
-    let x : Stroke = record { pen = penOf p true Lines; n = m } in
-    let z : Stroked t n (onPoint pen p) x u = rw e (record { pen = refl; emits = w; few = omega (arith, w .count) }) in
-    bare-by k pen (from s i) (from s j) Lines e (pointed-some pen (v .low) (v .high) g q z)
-line-turned k pen (Letter b) r v e f q w = absurd (let z : _≡_ {A = ℕ} 0 1 = cc (rw q at (f .0)) in omega arith)
-line-turned k pen (Refused b) r v e f q w = absurd (let z : _≡_ {A = ℕ} 0 1 = cc (rw q at (f .0)) in omega arith)
-line-turned k pen Other r v e f q w = absurd (let z : _≡_ {A = ℕ} 0 1 = cc (rw q at (f .0)) in omega arith)
+line-turned {s} {i} {j} {t} {n} {p} {l} {m} {u} k pen x r v e f q w =
+    let o : Stroke = record { pen = penOf p true Lines; n = m } in
+    let z : Stroked t n (byMode Lines pen p) o u = record { pen = refl; emits = w; few = omega (arith, w .count) } in
+    point-turned k pen x r Lines tt v e f q z
+
+pub spline-turned : {s : List ℕ} {i j : ℕ} {t : List ℕ} {n : ℕ} {p : Point} {l : ℕ} {o : Stroke} {u : List ℕ} (k : Float) (pen : Pen) (x : Token) (r : OnePoint) (c : Ctrl) → NextIs s i x j → pen .mode ≡ Spline c → Point-from s k x j r → r ≡ PointAt p l
+    → Stroked t n (splinePoint (pen .cur) (pen .opened) c p) o u → Turns s t n (turnOf x k pen (from s i) (from s j)) (i + 1) (record { pen = o .pen; n = o .n; next = l }) u
+spline-turned k pen x r c v e f q w = point-turned k pen x r (Spline c) tt v e f q w
 
 module _ {s : List ℕ} {k : Float} {i : ℕ} {t : List ℕ} {n : ℕ} (closes : Bool) (pen : Pen) where
   pub moves-none : {r : OnePoint} → ReadsPoint s k i r → r ≡ NoPoint → i ≤ length s → Turns s t n (movesTo closes k pen (from s i)) i (record { pen = pen; n = n; next = i }) t

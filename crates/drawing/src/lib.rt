@@ -850,6 +850,20 @@ fn draw(text: &[u8], scale: f32, path: &mut [u32]) -> Traced
                         continue;
                     }
                 }
+                if let Mode::Spline(ctrl) = mode {
+                    let read = point_from(text, t, k, scale);
+                    if let OnePoint::At(p, next) = read {
+                        let cur = pen.cur;
+                        let s = spline_point(cur, pen.opened, ctrl, p, at.n, path);
+                        let drawn = s.pen;
+                        at = Stand {
+                            pen: drawn,
+                            n: s.n,
+                            next,
+                        };
+                        continue;
+                    }
+                }
                 let after = turn(text, t, i, k, scale, pen, at.n, path);
                 at = after;
             }

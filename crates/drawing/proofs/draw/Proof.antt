@@ -1,6 +1,6 @@
 use Rattle.drawing.proofs.Grounds.{ground-turned, ground-stopped}
 use Rattle.drawing.proofs.Answering.{going-on}
-use Rattle.drawing.proofs.Turning.{next-is, next-end, ground-end, line-turned}
+use Rattle.drawing.proofs.Turning.{next-is, next-end, ground-end, line-turned, spline-turned}
 use Rattle.drawing.proofs.Emitting.{emits-none, emits-length}
 use Rattle.drawing.proofs.Machine.{left, left-end}
 use Rattle.drawing.specs.Drawing.{Emits, draw as drawOf}
@@ -105,25 +105,59 @@ loop-again c =
 enum-told-5 : tie.Need-enum-told-5 Inv-loop μ-loop
 enum-told-5 c = search needs
 
-turn-requires : tie.Need-turn-requires Inv-loop μ-loop
-turn-requires c κs =
-    let n = next-is (c .before .before .before .before .before .before .before .before .before .next-token .ensures) (c .before .before .before .before .before .before .before .next .given .1) in
-    let l = c .before .before .before .before .before .before .before .before .before .before .loop in
-    (n .low, n .high, omega (arith, l .inv .0, l .inv .1, c .before .before .before .before .before .before .before .before .before .before .before .before .before .pre), n .is)
+enum-known-mode : tie.Need-enum-known-mode Inv-loop μ-loop
+enum-known-mode c = search needs
+
+point-from-requires-2 : tie.Need-point-from-requires-2 Inv-loop μ-loop
+point-from-requires-2 c κs = next-is (c .before .before .before .before .before .before .before .before .before .before .before .next-token .ensures) (c .before .before .before .before .before .before .before .before .before .next .given .1) .high
+
+enum-known-read-2 : tie.Need-enum-known-read-2 Inv-loop μ-loop
+enum-known-read-2 c = search needs
+
+spline-point-requires : tie.Need-spline-point-requires Inv-loop μ-loop
+spline-point-requires c κs = let l = c .before .before .before .before .before .before .before .before .before .before .before .before .before .before .before .before .before .before .loop in omega (arith, l .inv .0, l .inv .1, c .before .before .before .before .before .before .before .before .before .before .before .before .before .before .before .before .before .before .before .before .before .pre)
 
 loop-less-2 : tie.Need-loop-less-2 Inv-loop μ-loop
-loop-less-2 c = let w = c .before .before .turn .ensures in omega (arith, w .low, w .high)
+loop-less-2 c =
+    let l = c .before .before .before .before .before .before .before .before .before .before .before .before .before .before .before .before .before .before .before .before .before .before .loop in
+    let n = next-is (c .before .before .before .before .before .before .before .before .before .before .before .before .before .before .before .before .before .before .before .before .before .next-token .ensures) (c .before .before .before .before .before .before .before .before .before .before .before .before .before .before .before .before .before .before .before .next .given .1) in
+    let w = spline-turned (c .before .before .before .before .before .before .before .before .before .before .before .before .before .before .before .before .before .before .before .before .before .before .before .before .before .args .scale) (l .at .pen) _ _ _ n (c .before .before .before .before .before .before .before .before .before .before .before .mode .given .1) (c .before .before .before .before .before .before .before .before .before .point-from2 .ensures) (c .before .before .before .before .before .before .before .read2 .given .1) (c .before .before .before .spline-point .ensures) in
+    omega (arith, w .low, w .high)
 
 loop-again-2 : tie.Need-loop-again-2 Inv-loop μ-loop
 loop-again-2 c =
-    let l = c .before .before .before .before .before .before .before .before .before .before .before .before .before .loop in
-    let w = c .before .before .turn .ensures in
-    let n = next-is (c .before .before .before .before .before .before .before .before .before .before .before .before .next-token .ensures) (c .before .before .before .before .before .before .before .before .before .before .next .given .1) in (
+    let l = c .before .before .before .before .before .before .before .before .before .before .before .before .before .before .before .before .before .before .before .before .before .before .loop in
+    let n = next-is (c .before .before .before .before .before .before .before .before .before .before .before .before .before .before .before .before .before .before .before .before .before .next-token .ensures) (c .before .before .before .before .before .before .before .before .before .before .before .before .before .before .before .before .before .before .before .next .given .1) in
+    let w = spline-turned (c .before .before .before .before .before .before .before .before .before .before .before .before .before .before .before .before .before .before .before .before .before .before .before .before .before .args .scale) (l .at .pen) _ _ _ n (c .before .before .before .before .before .before .before .before .before .before .before .mode .given .1) (c .before .before .before .before .before .before .before .before .before .point-from2 .ensures) (c .before .before .before .before .before .before .before .read2 .given .1) (c .before .before .before .spline-point .ensures) in (
       w .high,
       omega (arith, w .low, w .few, l .inv .1),
       emits-length (w .emits) ∙ l .inv .2,
       λ v m e. l .inv .3 v m (going-on _ _ _ n w e),
-      l .inv .4 ∙ ground-turned (c .before .before .before .before .before .before .before .before .before .before .before .before .before .before .before .before .args .scale) (l .at .pen) _ n (c .before .before .before .before .before .before .before .before .turn-ground .ensures) _ (c .before .before .before .before .before .before .enum-told2 .given .1) (w .rest),
+      l .inv .4 ∙ ground-turned (c .before .before .before .before .before .before .before .before .before .before .before .before .before .before .before .before .before .before .before .before .before .before .before .before .before .args .scale) (l .at .pen) _ n (c .before .before .before .before .before .before .before .before .before .before .before .before .before .before .before .before .before .turn-ground .ensures) _ (c .before .before .before .before .before .before .before .before .before .before .before .before .before .before .before .enum-told2 .given .1) (w .rest),
+    )
+
+enum-told-6 : tie.Need-enum-told-6 Inv-loop μ-loop
+enum-told-6 c = search needs
+
+turn-requires : tie.Need-turn-requires Inv-loop μ-loop
+turn-requires c κs =
+    let n = next-is (c .before .before .before .before .before .before .before .before .before .before .next-token .ensures) (c .before .before .before .before .before .before .before .before .next .given .1) in
+    let l = c .before .before .before .before .before .before .before .before .before .before .before .loop in
+    (n .low, n .high, omega (arith, l .inv .0, l .inv .1, c .before .before .before .before .before .before .before .before .before .before .before .before .before .before .pre), n .is)
+
+loop-less-3 : tie.Need-loop-less-3 Inv-loop μ-loop
+loop-less-3 c = let w = c .before .before .turn .ensures in omega (arith, w .low, w .high)
+
+loop-again-3 : tie.Need-loop-again-3 Inv-loop μ-loop
+loop-again-3 c =
+    let l = c .before .before .before .before .before .before .before .before .before .before .before .before .before .before .loop in
+    let w = c .before .before .turn .ensures in
+    let n = next-is (c .before .before .before .before .before .before .before .before .before .before .before .before .before .next-token .ensures) (c .before .before .before .before .before .before .before .before .before .before .before .next .given .1) in (
+      w .high,
+      omega (arith, w .low, w .few, l .inv .1),
+      emits-length (w .emits) ∙ l .inv .2,
+      λ v m e. l .inv .3 v m (going-on _ _ _ n w e),
+      l .inv .4 ∙ ground-turned (c .before .before .before .before .before .before .before .before .before .before .before .before .before .before .before .before .before .args .scale) (l .at .pen) _ n (c .before .before .before .before .before .before .before .before .before .turn-ground .ensures) _ (c .before .before .before .before .before .before .before .enum-told2 .given .1) (w .rest),
     )
 
 pub draw-spec : {M : Type 1} → statement M
@@ -150,6 +184,13 @@ draw-spec =
     loop-less
     loop-again
     enum-told-5
-    turn-requires
+    enum-known-mode
+    point-from-requires-2
+    enum-known-read-2
+    spline-point-requires
     loop-less-2
-    loop-again-2)
+    loop-again-2
+    enum-told-6
+    turn-requires
+    loop-less-3
+    loop-again-3)
