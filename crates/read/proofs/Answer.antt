@@ -1,5 +1,5 @@
--- The answer and the table, from what the reader gives in a scratch table.
-use mathlib.Core.Path.{_≡_, sym, ap, _∙_}
+-- The answer and the table, from what the reader gives in a scratch table and, of many records, in the lent one.
+use mathlib.Core.Path.{_≡_, refl, sym, ap, _∙_}
 use mathlib.Core.List.{List, _++_}
 use mathlib.Core.Logic.{⊎-elim}
 use Prim.Native.Nat.{ℕ, _*_, _/_, _≤_, _<_, min}
@@ -18,7 +18,7 @@ use Rattle.read.specs.declared.Reading.{Reading}
 use Rattle.read.specs.declared.Reading.the-variants.{Read, Refused}
 use Rattle.refusal.specs.declared.Checked.the-variants.{Good, Bad}
 use Rattle.read.specs.declared.Span.{Span}
-use Rattle.read.specs.Reading.{Told, readGround, blockOf, answer, after, Answered}
+use Rattle.read.specs.Reading.{Told, readGround, blockOf, answer, after, Answered, Begun}
 use Rattle.refusal.specs.Refusal.{textGround}
 
 -- a text with no ground 1 is short
@@ -53,29 +53,45 @@ module _ (s : List ℕ) (x : Span) (t : List ℕ) where
     unfolding answer
     is-answer r e = sym (rw good (rw (a .out) at e))
 
-    pub refused : (r : Refusal) → readGround (seen .long) (seen .far) (seen .n) (length t / 8) ≡ Refused r → Answered s x t (Refused r) t
+    pub refused : (r : Refusal) → readGround (seen .long) (seen .far) (seen .n) (length t / 8) ≡ Refused r → Begun s x t (Refused r) t
     unfolding after
     refused r e =
         let k = is-answer (Refused r) e in
-        record { reading = k; table = rw (← k) }
+        record { reading = k; few = λ h. rw (← k); many = λ h. absurd (omega arith) }
 
-    -- the records that are read have room in both tables
-    pub room : (n : ℕ) → readGround (seen .long) (seen .far) (seen .n) (length t / 8) ≡ Read n → (n ≡ seen .n) × (n ≤ length t / 8) × (n ≤ 1024)
-    room n e = ground-read (seen .long) (seen .far) (seen .n) (length t / 8) n e
+    -- more records than the scratch table has are not copied
+    pub many : (n : ℕ) → readGround (seen .long) (seen .far) (seen .n) (length t / 8) ≡ Read n → 32 < n → Begun s x t (Read n) t
+    many n e h = record { reading = is-answer (Read n) e; few = λ (g : n ≤ 32). absurd (omega arith); many = λ g. refl }
 
-    pub roomy : (n : ℕ) → readGround (seen .long) (seen .far) (seen .n) (length t / 8) ≡ Read n → 8 * min m 1024 ≤ length w → (8 * n ≤ length w) × (8 * n ≤ length l) × (8 * n ≤ length t)
-    roomy n e h =
-        let r = room n e in
-        let k : n ≤ m = rw (r .0) (a .few) in
-        let g : 8 * n ≤ length w = omega arith in
-        (g, rw (a .table, length-laid (encode (blockOf s x .tags)) w) g, omega arith)
+    -- those that are have room in both tables
+    pub room : (n : ℕ) → readGround (seen .long) (seen .far) (seen .n) (length t / 8) ≡ Read n → n ≤ 32 → length w ≡ 256 → (8 * n ≤ length l) × (8 * n ≤ length t)
+    room n e h g =
+        let r = ground-read (seen .long) (seen .far) (seen .n) (length t / 8) n e in
+        let k : 8 * n ≤ length w = omega arith in
+        (rw (a .table, length-laid (encode (blockOf s x .tags)) w) k, omega arith)
 
-    pub done : (n : ℕ) → readGround (seen .long) (seen .far) (seen .n) (length t / 8) ≡ Read n → 8 * n ≤ length w → 8 * n ≤ length t → Answered s x t (Read n) (take (8 * n) l ++ drop (8 * n) t)
+    pub few : (n : ℕ) → readGround (seen .long) (seen .far) (seen .n) (length t / 8) ≡ Read n → n ≤ 32 → length w ≡ 256 → Begun s x t (Read n) (take (8 * n) l ++ drop (8 * n) t)
     unfolding after
-    done n e h g =
+    few n e h g =
         let k = is-answer (Read n) e in
-        let q : n ≡ length (encode (blockOf s x .tags)) = room n e .0 ∙ ap (λ (o : Out). o .n) (a .out) in
+        let q : n ≡ length (encode (blockOf s x .tags)) = ground-read (seen .long) (seen .far) (seen .n) (length t / 8) n e .0 ∙ ap (λ (o : Out). o .n) (a .out) in
+        let f : 8 * n ≤ length w = omega arith in
         record {
           reading = k;
-          table = rw (← k, a .table, q) (laid-copied (encode (blockOf s x .tags)) w t (rw q at h) (rw q at g));
+          few = λ z. rw (← k, a .table, q) (laid-copied (encode (blockOf s x .tags)) w t (rw q at f) (rw q at (room n e h g .1)));
+          many = λ (z : 32 < n). absurd (omega arith);
         }
+
+  -- what the second run adds to the first, which answered o and left u
+  module _ {o : Reading} {u : List ℕ} (b : Begun s x t o u) where
+    pub none-read : (r : Refusal) → o ≡ Refused r → Answered s x t (Refused r) u
+    none-read r e = let k = rw e at b in record { reading = k .reading; table = k .few (omega arith) }
+
+    pub few-read : (n : ℕ) → o ≡ Read n → n ≤ 32 → Answered s x t (Read n) u
+    few-read n e h = let k = rw e at b in record { reading = k .reading; table = k .few h }
+
+    pub many-read : (n m : ℕ) (w : Out) (v : List ℕ) → o ≡ Read n → 32 < n → Told u (blockOf s x) m w v → Answered s x t (Read n) v
+    unfolding after
+    many-read n m w v e h a =
+        let k = rw e at b in
+        record { reading = k .reading; table = rw (← k .reading) (rw (k .many h) at (a .table)) }

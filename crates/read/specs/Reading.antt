@@ -1,7 +1,7 @@
 -- What the two reading calls answer, and what the table holds afterwards.
 use mathlib.Core.Path.{_≡_}
 use mathlib.Core.List.{List}
-use Prim.Native.Nat.{ℕ, _-_, _/_, _≤_, min}
+use Prim.Native.Nat.{ℕ, _-_, _/_, _≤_, _<_, min}
 use lib.Dec.{ltb, leb, eqb}
 use lib.ListN.{length, getD}
 use Rattle.scan.specs.Scan.{pick, inClass, past, trimStart, trimEnd}
@@ -100,3 +100,9 @@ recordsRead (Refused r) = 0
 pub record Answered (s : List ℕ) (x : Span) (t : List ℕ) (r : Reading) (u : List ℕ) : Type 0 where
   pub reading : r ≡ answer s x (placesOf t)
   pub table : u ≡ after s x t
+
+-- what the first run says, by a scratch table of 32 records: the answer; and up to 32 records are in the table, more are not
+pub record Begun (s : List ℕ) (x : Span) (t : List ℕ) (r : Reading) (u : List ℕ) : Type 0 where
+  pub reading : r ≡ answer s x (placesOf t)
+  pub few : recordsRead r ≤ 32 → u ≡ after s x t
+  pub many : 32 < recordsRead r → u ≡ t

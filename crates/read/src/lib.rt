@@ -8,7 +8,7 @@ ghost use Rattle.refusal.specs.declared.Checked.the-variants.{Good};
 ghost use Rattle.tag.specs.Table.{encode, laid};
 ghost use Rattle.read.specs.Block.{paramAt, nameEnd, headAt, HeadIn, peel as peelFrom, peelTo, tagAt, tAt, parse, oneGot};
 ghost use Rattle.read.specs.Heads.{headed, tWords, Peels};
-ghost use Rattle.read.specs.Reading.{Told, readGround, wholeText, lessBraces, answer, after, Answered, outOf};
+ghost use Rattle.read.specs.Reading.{Told, readGround, wholeText, lessBraces, answer, after, Answered, Begun, outOf};
 ghost use Rattle.read.specs.Kept.{keptGot, joinedOut, aroundOut};
 
 // A tag: where its name begins and ends, its parameter from p to q, and the place behind both.
@@ -411,23 +411,26 @@ fn check_read(o: Out, places: usize) -> Reading
     }
 }
 
-// Reads a part of the text into the scratch table and, if nothing stands against it, copies its records into the lent one.
-fn read_by(text: &[u8], from: usize, to: usize, scratch: &mut [u32], table: &mut [u32]) -> Reading
-    requires { ⌜ (from ≤ to) × (to ≤ length (now text)) × (textGround (now text) ≡ Good) × (8 * min (to - from) 1024 ≤ length (now scratch)) ⌝ }
-    ensures { λ r. ⌜ Answered (now (text .entry)) (record { from = from; to = to }) (now (table .entry)) r (now (table .exit)) ⌝ }
+// Reads a part of the text into a scratch table; up to 32 records, if nothing stands against them, are copied into the lent one.
+fn read_few(text: &[u8], from: usize, to: usize, table: &mut [u32]) -> Reading
+    requires { ⌜ (from ≤ to) × (to ≤ length (now text)) × (textGround (now text) ≡ Good) ⌝ }
+    ensures { λ r. ⌜ Begun (now (text .entry)) (record { from = from; to = to }) (now (table .entry)) r (now (table .exit)) ⌝ }
 {
-    let seen = parse_overrides_depth(text, from, to, 8, scratch);
+    let mut scratch = [1u32; 256];
+    let seen = parse_overrides_depth(text, from, to, 8, &mut scratch);
     let answer = check_read(seen, table.len() / 8);
     match answer {
         Reading::Refused(r) => Reading::Refused(r),
         Reading::Read(n) => {
-            tag::copy(scratch, n, table);
+            if n <= 32 {
+                tag::copy(&scratch, n, table);
+            }
             Reading::Read(n)
         }
     }
 }
 
-// Reads a part of the text, by a scratch table that has room for all that it can hold.
+// Reads a part of the text: by the scratch table, and once more, into the lent one, where that holds too few records.
 fn read_span(text: &[u8], from: usize, to: usize, table: &mut [u32]) -> Reading
     requires { ⌜ (from ≤ to) × (to ≤ length (now text)) ⌝ }
     ensures { λ r. ⌜ Answered (now (text .entry)) (record { from = from; to = to }) (now (table .entry)) r (now (table .exit)) ⌝ }
@@ -436,16 +439,16 @@ fn read_span(text: &[u8], from: usize, to: usize, table: &mut [u32]) -> Reading
     match checked {
         refusal::Checked::Bad(r) => Reading::Refused(r),
         refusal::Checked::Good => {
-            if to - from <= 64 {
-                let mut scratch = [1u32; 512];
-                return read_by(text, from, to, &mut scratch, table);
+            let answer = read_few(text, from, to, table);
+            match answer {
+                Reading::Refused(r) => Reading::Refused(r),
+                Reading::Read(n) => {
+                    if n > 32 {
+                        let _ = parse_overrides_depth(text, from, to, 8, table);
+                    }
+                    Reading::Read(n)
+                }
             }
-            if to - from <= 256 {
-                let mut scratch = [1u32; 2048];
-                return read_by(text, from, to, &mut scratch, table);
-            }
-            let mut scratch = [1u32; 8192];
-            read_by(text, from, to, &mut scratch, table)
         }
     }
 }
