@@ -1,17 +1,14 @@
 -- From turns to a drawing, and from a drawing to the answer.
-use mathlib.Core.Path.{_≡_, sym, subst, _∙_}
-use mathlib.Core.List.{List, [], _∷_, _++_}
+use mathlib.Core.Path.{_≡_, refl, sym, subst, _∙_}
+use mathlib.Core.List.{List, _++_}
 use mathlib.Core.Bool.{false}
 use mathlib.Core.Logic.{⊎-elim}
-use Prim.Native.Nat.{ℕ, zero, suc, _+_, _-_, _*_, _/_, _≤_, _<_, min}
+use Prim.Native.Nat.{ℕ, _*_, _/_, _≤_, _<_, min}
 use native.Mathlib.Omega.{arith}
-use native.Mathlib.Nat.{le-refl}
-use lib.Dec.{ltb}
 use lib.Ieee.{Float}
 use lib.ListN.{length, take, drop}
 use borrow.Author.Tests.{lt-ltb, le-ltb}
-use Rattle.scan.specs.Scan.{trimStart}
-use Rattle.scan.proofs.Laws.{le-or-lt, picked}
+use Rattle.scan.proofs.Laws.{le-or-lt}
 use Rattle.refusal.specs.declared.Refusal.{Refusal}
 use Rattle.refusal.specs.declared.Refusal.the-variants.{ScaleTooLarge, NoRoom}
 use Rattle.tag.specs.declared.Record.{Record}
@@ -23,13 +20,14 @@ use Rattle.drawing.specs.declared.Stand.{Stand}
 use Rattle.drawing.specs.declared.Command.{Command}
 use Rattle.refusal.specs.declared.Checked.{Checked}
 use Rattle.refusal.specs.declared.Checked.the-variants.{Good, Bad}
+use Rattle.drawing.specs.declared.Drawing.{Drawing}
 use Rattle.drawing.specs.declared.Drawing.the-variants.{Drawn, Refused}
-use Rattle.drawing.specs.Tokens.{from, tokens, tokenOf, tokenEnd}
+use Rattle.drawing.specs.Tokens.{from}
 use Rattle.drawing.specs.Drawing.{scaleOf, settled, continues, command, commandOf, letterTurn, turnOf, Turn, draw, Emits, Turns}
-use Rattle.drawing.specs.Answer.{tokensGround, unless, ground, drawing, answer, after, Answered}
+use Rattle.drawing.specs.Answer.{tokensGround, unless, ground, drawing, answer, after, Answered, Begun}
 use Rattle.refusal.specs.Refusal.{textGround}
 use Rattle.drawing.proofs.Emitting.{emits-all, emits-join}
-use Rattle.drawing.proofs.Machine.{left, left-turn, few-commands}
+use Rattle.drawing.proofs.Machine.{left, left-turn}
 use Rattle.drawing.proofs.Turning.{NextIs}
 
 -- a letter that does not continue a spline
@@ -64,27 +62,6 @@ short-text s e =
     (λ (h : 12288 < length s). absurd (let z : _≡_ {A = ℕ} 0 1 = cc (rw (lt-ltb 12288 (length s) h) at e) in omega arith))
     (le-or-lt (length s) 12288)
 
--- there are no more commands than tokens, and no more tokens than bytes
-few-tokens : (s : List ℕ) (n i : ℕ) → length (tokens s n i) ≤ n
-unfolding tokens
-few-tokens s zero i = le-refl 0
-few-tokens s (suc n) i =
-    let a = trimStart s i (length s) in
-    let b = tokenEnd s (a + 1) in
-    let h = few-tokens s n b in
-    picked (λ (l : List Token). length l ≤ suc n) (ltb a (length s)) (tokenOf s a b ∷ tokens s n b) [] (omega arith) (omega arith)
-
-pub few : {c : Checked} {n : ℕ} {w v : List ℕ} (s : List ℕ) (k : Float) → c ≡ Good → (c ≡ Good → Emits w 0 (draw k (from s 0)) n v) → n ≤ length s
-few s k q z =
-    let e = z q .count in
-    let a = few-commands k (from s 0) in
-    let b = few-tokens s (length s - 0) 0 in
-    omega arith
-
--- n commands have room in the scratch path, of w words before the run and v after it, and in one of t words
-pub room : (n m l w v t : ℕ) → n ≤ m → m ≡ min (t / 8) 1024 → n ≤ l → v ≡ w → 8 * min l 1024 ≤ w → (8 * n ≤ w) × (8 * n ≤ v) × (8 * n ≤ t)
-room n m l w v t a b c d e = (omega arith, omega arith, omega arith)
-
 module _ (s t : List ℕ) (x : ℕ) where
   pub answered-text : {r : Refusal} → textGround s ≡ Bad r → Answered s x t (Refused r) t
   unfolding ground answer after
@@ -117,10 +94,45 @@ module _ (s t : List ℕ) (x : ℕ) where
             let y = lt-ltb (min (length t / 8) 1024) (length (drawing s x)) d in
             record { drawing = rw (is-good, y, counted); path = rw (is-good, y) }
 
-        pub answered-drawn : n ≤ m → 8 * n ≤ length w → 8 * n ≤ length t → Answered s x t (Drawn n) (take (8 * n) v ++ drop (8 * n) t)
-        unfolding answer after
-        answered-drawn h a b =
+        is-drawn : n ≤ m → Drawn n ≡ answer s x (length t / 8)
+        unfolding answer
+        is-drawn h =
             let d : length (drawing s x) ≤ min (length t / 8) 1024 = rw (← counted, ← p) h in
             let y = le-ltb (min (length t / 8) 1024) (length (drawing s x)) d in
+            rw (is-good, y, counted)
+
+        pub begun-few : n ≤ m → n ≤ 32 → length w ≡ 256 → Begun s x t (Drawn n) (take (8 * n) v ++ drop (8 * n) t)
+        unfolding after
+        begun-few h i j =
             let o : v ≡ laid w (drawing s x) = emits-all (z q) ∙ rw f in
-            record { drawing = rw (is-good, y, counted); path = rw (is-good, y, o, counted) (laid-copied (drawing s x) w t (rw counted at a) (rw counted at b)) }
+            let a : 8 * n ≤ length w = omega arith in
+            let b : 8 * n ≤ length t = omega arith in
+            let y = is-drawn h in
+            record {
+              drawing = y;
+              few = λ g. rw (← y, o, counted) (laid-copied (drawing s x) w t (rw counted at a) (rw counted at b));
+              many = λ (g : 32 < n). absurd (omega arith);
+            }
+
+        -- more commands than the scratch path has are not copied
+        pub begun-many : n ≤ m → 32 < n → Begun s x t (Drawn n) t
+        begun-many h i = record { drawing = is-drawn h; few = λ (g : n ≤ 32). absurd (omega arith); many = λ g. (refl, sym e ∙ q) }
+
+  pub begun-none : {r : Refusal} → Answered s x t (Refused r) t → Begun s x t (Refused r) t
+  begun-none a = record { drawing = a .drawing; few = λ h. a .path; many = λ h. absurd (omega arith) }
+
+  -- what the second run adds to the first, which answered o and left u
+  module _ {o : Drawing} {u : List ℕ} (b : Begun s x t o u) where
+    pub none-drawn : (r : Refusal) → o ≡ Refused r → Answered s x t (Refused r) u
+    none-drawn r e = let k = rw e at b in record { drawing = k .drawing; path = k .few (omega arith) }
+
+    pub few-drawn : (n : ℕ) → o ≡ Drawn n → n ≤ 32 → Answered s x t (Drawn n) u
+    few-drawn n e h = let k = rw e at b in record { drawing = k .drawing; path = k .few h }
+
+    pub many-drawn : {c : Checked} {k : Float} {m : ℕ} {v : List ℕ} (n : ℕ) → o ≡ Drawn n → 32 < n → c ≡ tokensGround (from s 0) → k ≡ scaleOf x → (c ≡ Good → Emits u 0 (draw k (from s 0)) m v) → Answered s x t (Drawn n) v
+    unfolding after
+    many-drawn {c} {k} {m} {v} n e h i f z =
+        let g = rw e at b in
+        let y = g .many h in
+        let d : v ≡ laid u (drawing s x) = emits-all (z (i ∙ y .1)) ∙ rw f in
+        record { drawing = g .drawing; path = rw (← g .drawing) (rw (y .0) at d) }

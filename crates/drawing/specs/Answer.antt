@@ -1,7 +1,7 @@
 -- What `parse_drawing` answers, and what the path table holds afterwards.
 use mathlib.Core.Path.{_≡_}
 use mathlib.Core.List.{List, [], _∷_}
-use Prim.Native.Nat.{ℕ, _/_, min}
+use Prim.Native.Nat.{ℕ, _/_, _≤_, _<_, min}
 use lib.Dec.{ltb}
 use lib.ListN.{length}
 use Rattle.scan.specs.Scan.{pick}
@@ -86,3 +86,9 @@ commandsDrawn (Refused r) = 0
 pub record Answered (s : List ℕ) (exponent : ℕ) (t : List ℕ) (r : Drawing) (u : List ℕ) : Type 0 where
   pub drawing : r ≡ answer s exponent (placesOf t)
   pub path : u ≡ after s exponent t
+
+-- what the first run says, by a scratch path of 32 commands: the answer; that no numeral is refused where it draws; and up to 32 commands are in the path, more are not
+pub record Begun (s : List ℕ) (exponent : ℕ) (t : List ℕ) (r : Drawing) (u : List ℕ) : Type 0 where
+  pub drawing : r ≡ answer s exponent (placesOf t)
+  pub few : commandsDrawn r ≤ 32 → u ≡ after s exponent t
+  pub many : 32 < commandsDrawn r → (u ≡ t) × (tokensGround (from s 0) ≡ Good)

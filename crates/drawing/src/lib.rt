@@ -7,7 +7,7 @@ ghost use lib.ListN.{length};
 ghost use Rattle.scan.specs.Scan.{pick};
 ghost use Rattle.drawing.specs.Tokens.{oneLetter, lower as lowerOf, spells as spellsAt, special as specialAt, tokenEnd, tokenOf, Follows, from as tokensFrom, untilLetter, Skips};
 ghost use Rattle.drawing.specs.Drawing.{readPoint, read1, Behind1, bez as bezOf, spanOf, moveTo, lineTo, cubicTo, closed, scaleOf, commandOf, Emits, ReadsPoint, ReadsThree, Stroked, spanGives, splinePoint, standAt, onPoint, settled as settledPen, Turns, continues as continuesAt, letterTurn, bareTurn, turnOf, curve, pointed, command as commandTurn, movesTo, draw as drawOf};
-ghost use Rattle.drawing.specs.Answer.{tokensGround, unless, Answered};
+ghost use Rattle.drawing.specs.Answer.{tokensGround, unless, Answered, Begun};
 ghost use Rattle.refusal.specs.Refusal.{textGround};
 ghost use Rattle.refusal.specs.declared.Checked.the-variants.{Good, Bad};
 ghost use Rattle.refusal.specs.declared.Refusal.the-variants.{ScaleTooLarge};
@@ -901,12 +901,13 @@ fn scale_of(exponent: u32) -> f32
     1.0 / float::nearest_u32(1 << (exponent - 1))
 }
 
-// Draws into the scratch path and, if nothing stands against it, copies the commands into the lent one.
-fn draw_by(text: &[u8], exponent: u32, scratch: &mut [u32], path: &mut [u32]) -> Drawing
-    requires { ⌜ (textGround (now text) ≡ Good) × (exponent ≤ 32) × (8 * min (length (now text)) 1024 ≤ length (now scratch)) ⌝ }
-    ensures { λ r. ⌜ Answered (now (text .entry)) exponent (now (path .entry)) r (now (path .exit)) ⌝ }
+// Draws into a scratch path; up to 32 commands, if nothing stands against them, are copied into the lent one.
+fn draw_few(text: &[u8], exponent: u32, path: &mut [u32]) -> Drawing
+    requires { ⌜ (textGround (now text) ≡ Good) × (exponent ≤ 32) ⌝ }
+    ensures { λ r. ⌜ Begun (now (text .entry)) exponent (now (path .entry)) r (now (path .exit)) ⌝ }
 {
-    let drawn = draw(text, scale_of(exponent), scratch);
+    let mut scratch = [1u32; 256];
+    let drawn = draw(text, scale_of(exponent), &mut scratch);
     let ground = drawn.ground;
     match ground {
         refusal::Checked::Bad(r) => Drawing::Refused(r),
@@ -915,7 +916,9 @@ fn draw_by(text: &[u8], exponent: u32, scratch: &mut [u32], path: &mut [u32]) ->
             if n > least(path.len() / 8, 1024) {
                 return Drawing::Refused(refusal::Refusal::NoRoom(n));
             }
-            tag::copy(scratch, n, path);
+            if n <= 32 {
+                tag::copy(&scratch, n, path);
+            }
             Drawing::Drawn(n)
         }
     }
@@ -932,7 +935,7 @@ fn too_large(text: &[u8]) -> refusal::Refusal
     }
 }
 
-// 01, src/drawing.rs: the path of a drawing, by a scratch path that has room for all that the text can hold.
+// 01, src/drawing.rs: the path of a drawing, by a scratch path, and once more, into the lent one, where that holds too few commands.
 pub fn parse_drawing(text: &[u8], exponent: u32, path: &mut [u32]) -> Drawing
     ensures { λ r. ⌜ Answered (now (text .entry)) exponent (now (path .entry)) r (now (path .exit)) ⌝ }
 {
@@ -943,16 +946,16 @@ pub fn parse_drawing(text: &[u8], exponent: u32, path: &mut [u32]) -> Drawing
             if exponent > 32 {
                 return Drawing::Refused(too_large(text));
             }
-            if text.len() <= 64 {
-                let mut scratch = [1u32; 512];
-                return draw_by(text, exponent, &mut scratch, path);
+            let answer = draw_few(text, exponent, path);
+            match answer {
+                Drawing::Refused(r) => Drawing::Refused(r),
+                Drawing::Drawn(n) => {
+                    if n > 32 {
+                        let _ = draw(text, scale_of(exponent), path);
+                    }
+                    Drawing::Drawn(n)
+                }
             }
-            if text.len() <= 256 {
-                let mut scratch = [1u32; 2048];
-                return draw_by(text, exponent, &mut scratch, path);
-            }
-            let mut scratch = [1u32; 8192];
-            draw_by(text, exponent, &mut scratch, path)
         }
     }
 }
