@@ -34,9 +34,6 @@ returns c =
 returns-2 : tie.Need-returns-2
 returns-2 c = let t = c .before .before .before .args .tens in cc (plus-zero, round-zero false (10 ^ t) (one-at-least t))
 
-cast-ratio : tie.Need-cast-ratio
-cast-ratio c = search needs
-
 ratio-requires : tie.Need-ratio-requires
 ratio-requires c κs =
     let n = c .before .before .before .args .tens in
@@ -57,6 +54,5 @@ magnitude-spec =
     int-to-float-result-2
     returns
     returns-2
-    cast-ratio
     ratio-requires
     returns-3)
