@@ -6,8 +6,8 @@ use Rattle.clips.proofs.clip_parts.Tie as tie
 trim-start-requires : tie.Need-trim-start-requires
 trim-start-requires c κs = search needs
 
-span-requires : tie.Need-span-requires
-span-requires c κs = search needs
+comma-at-requires : tie.Need-comma-at-requires
+comma-at-requires c κs = search needs
 
 trim-end-requires : tie.Need-trim-end-requires
 trim-end-requires c κs = search needs
@@ -28,20 +28,20 @@ at-least-one-requires : tie.Need-at-least-one-requires
 at-least-one-requires c κs = search needs
 
 returns : tie.Need-returns
-returns c = record { is = clip-some _ (c .before .before .before .before .before .before .before .trim-start .ensures .is) (c .before .before .before .before .before .before .span .ensures .is) (c .before .before .before .before .trim-end .ensures .is) (c .before .before .before .whole-number .ensures) (c .before .before .before .before .before .if1 .taken) (c .before .before .if2 .taken) (c .before .trim-start2 .ensures .is) (c .at-least-one .ensures); order = search needs; high = search needs }
+returns c = record { is = clip-some _ (c .before .before .before .before .before .before .before .trim-start .ensures .is) (c .before .before .before .before .before .before .comma-at .ensures .is) (c .before .before .before .before .trim-end .ensures .is) (c .before .before .before .whole-number .ensures) (c .before .before .before .before .before .if1 .taken) (c .before .before .if2 .taken) (c .before .trim-start2 .ensures .is) (c .at-least-one .ensures); order = search needs; high = search needs }
 
 returns-2 : tie.Need-returns-2
-returns-2 c = record { is = clip-large _ (c .before .before .before .before .before .trim-start .ensures .is) (c .before .before .before .before .span .ensures .is) (c .before .before .trim-end .ensures .is) (c .before .whole-number .ensures) (c .before .before .before .if1 .taken) (c .if2 .left); order = search needs; high = search needs }
+returns-2 c = record { is = clip-large _ (c .before .before .before .before .before .trim-start .ensures .is) (c .before .before .before .before .comma-at .ensures .is) (c .before .before .trim-end .ensures .is) (c .before .whole-number .ensures) (c .before .before .before .if1 .taken) (c .if2 .left); order = search needs; high = search needs }
 
 returns-3 : tie.Need-returns-3
-returns-3 c = record { is = clip-none _ (c .before .before .trim-start .ensures .is) (c .before .span .ensures .is) (c .if1 .left); order = search needs; high = search needs }
+returns-3 c = record { is = clip-none _ (c .before .before .trim-start .ensures .is) (c .before .comma-at .ensures .is) (c .if1 .left); order = search needs; high = search needs }
 
 pub clip-parts-spec : {M : Type 1} → statement M
 clip-parts-spec =
     tie.close
     (tie.spec
     trim-start-requires
-    span-requires
+    comma-at-requires
     trim-end-requires
     whole-number-requires
     add-trim-start
