@@ -69,12 +69,15 @@ fn both(a: bool, b: bool) -> bool
     if a { b } else { false }
 }
 
-// The first of two places that there is.
+// The first of two places that there is; made anew, as the unused bytes of an enum that is handed on are copied too.
 pub fn first(a: Found, b: Found) -> Found
     ensures { λ r. ⌜ r ≡ firstOf a b ⌝ }
 {
     match a {
-        Found::Nowhere => b,
+        Found::Nowhere => match b {
+            Found::Nowhere => Found::Nowhere,
+            Found::At(q) => Found::At(q),
+        },
         Found::At(p) => Found::At(p),
     }
 }

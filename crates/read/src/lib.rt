@@ -309,7 +309,8 @@ fn around(l: lists::Found, o: Out) -> Out
 {
     let inner = o.long;
     let long = lists::first(l, inner);
-    let far = o.far;
+    let of = o.far;
+    let far = lists::first(lists::Found::Nowhere, of);
     Out {
         n: o.n + 1,
         long,
