@@ -2,6 +2,9 @@
 
 mod answer;
 mod arguments;
+mod bench;
+mod calls;
+mod clock;
 mod cost;
 mod generate;
 mod hex;
@@ -15,6 +18,7 @@ mod shrink;
 mod stand_in;
 mod suite;
 mod suites;
+mod texts;
 
 /// The copy that make_copy.py makes, as it is: not formatted, and with parts that go unused.
 #[rustfmt::skip]
@@ -35,18 +39,25 @@ const UNUSABLE: u8 = 2;
 
 fn main() -> ExitCode {
     let words: Vec<String> = std::env::args().skip(1).collect();
-    if words.first().is_some_and(|word| word == "cost") {
-        return match cost::run(&words[1..]) {
-            Some(()) => ExitCode::SUCCESS,
-            None => ExitCode::from(UNUSABLE),
-        };
+    match words.first().map(String::as_str) {
+        Some("cost") => status(cost::run(&words[1..]).map(|()| true)),
+        Some("bench") => status(bench::run(&words[1..])),
+        _ => match parse(&words) {
+            Some(command) => dispatch(&command),
+            None => {
+                eprintln!("{}", arguments::USAGE);
+                ExitCode::from(UNUSABLE)
+            }
+        },
     }
-    match parse(&words) {
-        Some(command) => dispatch(&command),
-        None => {
-            eprintln!("{}", arguments::USAGE);
-            ExitCode::from(UNUSABLE)
-        }
+}
+
+/// The status for what was measured: within its bounds, beyond them, or not at all.
+fn status(measured: Option<bool>) -> ExitCode {
+    match measured {
+        Some(true) => ExitCode::SUCCESS,
+        Some(false) => ExitCode::from(DIFFERENT),
+        None => ExitCode::from(UNUSABLE),
     }
 }
 

@@ -1,0 +1,163 @@
+//! Texts to measure with: short ones as typesetters write them, and long ones made from pieces.
+
+use crate::rule::refusal::MOST_BYTES;
+
+/// Short blocks, most of one tag.
+pub fn typical() -> Vec<String> {
+    lines(include_str!("typical.txt"))
+}
+
+/// Blocks of karaoke and signs, with \t, moves and clips.
+pub fn scripts() -> Vec<String> {
+    lines(include_str!("scripts.txt"))
+}
+
+/// Drawings, which are clip arguments too.
+pub fn drawings() -> Vec<String> {
+    lines(include_str!("drawings.txt"))
+}
+
+fn lines(file: &str) -> Vec<String> {
+    file.lines().map(str::to_owned).collect()
+}
+
+/// Tags of many kinds, twelve bytes to a tag.
+pub const MIXED: &str = "\\an8\\pos(320,50)\\fad(200,200)\\1c&HF2E6D8&\\3c&H3A2B1C&\\b1\\fs36\
+    \\blur0.6\\fscx110\\frz-12.5\\fnTimes New Roman\\move(120,40,520,40)\\clip(100,200,540,280)\
+    \\t(0,300,\\fscx120\\1a&H40&)\\k25\\org(640.5,360.5)\\i1\\fade(255,0,255,0,300,2000,2400)\
+    \\iclip(m 0 0 l 80 0 80 40 0 40)\\rDefault";
+
+/// Numerals of up to nine and nine digits.
+pub const NUMERALS: &str = "\\pos(123456789.987654321,-640.123456789)\\fscx98765432.1\
+    \\pos(0.000123456,999999999)\\fscx100.123456789";
+
+/// What stands before tags that are eight \t deep.
+pub const DEEP: &str = "\\t(0,100,\\t(\\t(2,\\t(\\t(\\t(\\t(\\t(";
+
+/// Lines, cubics and splines, thirteen bytes to a command.
+pub const DRAWN_MIX: &str = "m 10 0 l 290.5 0 b 296.25 0 300 4.5 300 10 l 300.5 50 310.25 55 \
+    b 300.75 56 296.5 60.25 290 60 280.5 60 270.25 58.5 262 61 s 40 0.5 40.5 40 12.75 40.5 p 12 18.25 c ";
+
+/// The front, then the piece again and again, cut to the number of bytes.
+pub fn repeated(front: &str, piece: &str, bytes: usize) -> String {
+    let mut text = front.to_owned();
+    while text.len() < bytes {
+        text.push_str(piece);
+    }
+    text.truncate(bytes);
+    text
+}
+
+/// The longest text of the front and whole pieces; the front alone for an empty piece.
+pub fn longest(front: &str, piece: &str) -> String {
+    let pieces = (MOST_BYTES - front.len())
+        .checked_div(piece.len())
+        .unwrap_or(0);
+    front.to_owned() + &piece.repeat(pieces)
+}
+
+/// The longest block eight \t deep, closed.
+pub fn deep() -> String {
+    let mut text = longest(DEEP, "\\fscx123.25\\frz(-123.500)   ");
+    text.truncate(text.len() - 8);
+    text + &")".repeat(8)
+}
+
+/// Short blocks that 01 refuses: an exponent, ten digits before or behind the point, a far \fade.
+pub fn refused() -> Vec<String> {
+    let texts = [
+        "\\fs1e2",
+        "\\pos(1234567890,50)",
+        "\\an8\\fscx100.1234567890",
+        "\\fade(255,0,255,0,300,2000,2000000000)",
+        "\\t(0,1e3,\\fs40)",
+        "\\pos(320,50)\\frz4.5e1\\i1",
+    ];
+    texts.map(str::to_owned).to_vec()
+}
+
+/// Long ones, refused for a tag at the front and for one at the end.
+pub fn refused_long() -> Vec<String> {
+    let mut texts = Vec::new();
+    for tag in refused() {
+        let block = repeated("", MIXED, 45 * MIXED.len());
+        texts.push(format!("{tag}{block}"));
+        texts.push(format!("{block}{tag}"));
+    }
+    texts
+}
+
+/// Each text between braces, as the raw call takes it.
+pub fn in_braces(texts: &[String]) -> Vec<String> {
+    texts.iter().map(|text| format!("{{{text}}}")).collect()
+}
+
+/// Each text behind a scale and a comma.
+pub fn with_scale(texts: &[String]) -> Vec<String> {
+    texts.iter().map(|text| format!("2,{text}")).collect()
+}
+
+#[cfg(test)]
+mod tests {
+    use super::*;
+    use crate::built::drawing::parse_drawing;
+    use crate::rule::block::{Reading, overrides};
+    use crate::rule::drawing::refused_token;
+    use crate::rule::refusal::MOST_PLACES;
+
+    fn median(mut numbers: Vec<usize>) -> usize {
+        numbers.sort_unstable();
+        numbers[numbers.len() / 2]
+    }
+
+    fn is_read(reading: &Reading) -> bool {
+        reading.too_long.is_none() && reading.far_fade.is_none()
+    }
+
+    fn kept(text: &str) -> usize {
+        assert!(text.len() <= MOST_BYTES);
+        let reading = overrides(text.as_bytes());
+        assert!(is_read(&reading), "{text}");
+        reading.kept.len()
+    }
+
+    #[test]
+    fn typical_blocks_are_short_and_kept_whole() {
+        let texts = typical();
+        assert!((60..=100).contains(&texts.len()));
+        assert_eq!(median(texts.iter().map(String::len).collect()), 14);
+        assert_eq!(median(texts.iter().map(|text| kept(text)).collect()), 1);
+        for text in texts.iter().chain(&scripts()) {
+            assert_eq!(kept(text), text.matches('\\').count(), "{text}");
+        }
+        assert!(
+            scripts()
+                .iter()
+                .all(|text| (60..=200).contains(&text.len()))
+        );
+    }
+
+    #[test]
+    fn long_blocks_fill_the_table_and_no_more() {
+        assert!((1_000..=1_024).contains(&kept(&repeated("", MIXED, MOST_BYTES))));
+        assert_eq!(kept(&longest("", NUMERALS)) % 4, 0);
+        assert!(kept(&deep()) > 800);
+        assert_eq!(kept(&repeated(DEEP, "\\b1", 40)), 10);
+    }
+
+    #[test]
+    fn refused_texts_are_refused() {
+        for text in refused().iter().chain(&refused_long()) {
+            assert!(text.len() <= MOST_BYTES);
+            assert!(!is_read(&overrides(text.as_bytes())), "{text}");
+        }
+    }
+
+    #[test]
+    fn drawings_are_read_and_fit() {
+        for text in drawings().iter().chain([&longest("", DRAWN_MIX)]) {
+            assert_eq!(refused_token(text.as_bytes()), None);
+            assert!(parse_drawing(text, 1).words.len() <= 8 * MOST_PLACES);
+        }
+    }
+}
