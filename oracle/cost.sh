@@ -1,12 +1,12 @@
 #!/usr/bin/env bash
 # Instructions of one call by valgrind, for the library and for the Rust, by kind and size of the text.
-# Usage: ./cost.sh [KIND..]; default: flat nested unclosed. Build `compare` first.
+# Usage: ./cost.sh [KIND..]; default: all of them.
 set -euo pipefail
 shopt -s inherit_errexit
 cd "$(dirname "${BASH_SOURCE[0]}")"
-compare=${CARGO_TARGET_DIR:-target}/release/compare
-[ -x "$compare" ] || { echo "cost.sh: build compare first: cargo build --release --offline" >&2; exit 2; }
 command -v valgrind >/dev/null || { echo "cost.sh: valgrind is not on PATH" >&2; exit 2; }
+cargo build --profile measure --offline --quiet
+compare=${CARGO_TARGET_DIR:-target}/measure/compare
 
 total() { # KIND BYTES SIDE TIMES
     local out
@@ -21,13 +21,15 @@ one() { # KIND BYTES SIDE
     echo $(((many - few) / 10))
 }
 
-printf '%-9s %6s %12s %12s %10s\n' kind bytes library rust lib/byte
-for kind in "${@:-flat nested unclosed}"; do
+printf '%-9s %6s %12s %12s %10s %10s\n' kind bytes library rust lib/byte rust/lib
+for kind in "${@:-typical flat nested unclosed lines spline clip scaled}"; do
     for k in $kind; do
-        for bytes in 1024 2048 4096 8192 12288; do
+        for bytes in 30 60 140 1024 12288; do
             library=$(one "$k" "$bytes" library)
             rust=$(one "$k" "$bytes" rust)
-            printf '%-9s %6d %12d %12d %10d\n' "$k" "$bytes" "$library" "$rust" $((library / bytes))
+            hundredths=$((100 * rust / library))
+            printf '%-9s %6d %12d %12d %10d %7d.%02d\n' "$k" "$bytes" "$library" "$rust" \
+                $((library / bytes)) $((hundredths / 100)) $((hundredths % 100))
         done
     done
 done
