@@ -1,0 +1,135 @@
+//! What the calls are measured on: short, long, refused and random texts.
+
+use super::painted::Arguments;
+use crate::calls::WORDS;
+use crate::generate::block::{block, nested_block, raw_block};
+use crate::generate::drawing::drawing;
+use crate::random::Random;
+use crate::texts::{self, DEEP, DRAWN_MIX, MIXED, NUMERALS, longest};
+
+/// What is lent to the calls: texts, and words with room for every record.
+pub struct Inputs {
+    /// Blocks without \t.
+    pub flat: Vec<Vec<u8>>,
+    /// Blocks with it, up to eight deep and beyond.
+    pub nested: Vec<Vec<u8>>,
+    pub drawings: Vec<Vec<u8>>,
+    pub clips: Vec<Vec<u8>>,
+    pub words: Vec<u32>,
+}
+
+impl Inputs {
+    pub fn new() -> Self {
+        let (nested, flat) = block_texts().into_iter().partition(|text| with_t(text));
+        let drawings = drawing_texts();
+        let scaled = drawings.iter().map(|text| [b"2,", &text[..]].concat());
+        Inputs {
+            flat,
+            nested,
+            clips: drawings.iter().cloned().chain(scaled).collect(),
+            drawings,
+            words: vec![0; WORDS],
+        }
+    }
+}
+
+/// The reader takes T for t.
+fn with_t(text: &[u8]) -> bool {
+    let pairs = text.windows(2);
+    pairs.into_iter().any(|two| two == b"\\t" || two == b"\\T")
+}
+
+fn block_texts() -> Vec<Vec<u8>> {
+    let mut blocks = [texts::typical(), texts::scripts(), texts::refused()].concat();
+    let flat: String = texts::typical()
+        .into_iter()
+        .filter(|text| !text.contains("\\t"))
+        .collect();
+    let deeper = format!("{DEEP}\\t(");
+    for front in ["", "\\fs1e2", DEEP, &deeper] {
+        for piece in [
+            &flat,
+            MIXED,
+            NUMERALS,
+            "\\fs(\\fs(12.5 ",
+            "\\r",
+            " ",
+            "(",
+            "é",
+            "",
+        ] {
+            blocks.push(longest(front, piece));
+        }
+    }
+    blocks.push(texts::deep());
+    let braced = texts::in_braces(&blocks);
+    let written = blocks.into_iter().chain(braced).map(String::into_bytes);
+    let made = [block, nested_block, raw_block]
+        .into_iter()
+        .flat_map(random);
+    written.chain(made).collect()
+}
+
+fn drawing_texts() -> Vec<Vec<u8>> {
+    let mut drawings = texts::drawings();
+    let numbers = "123456789.987654321 0.000001 ";
+    for front in ["", "m 0 0 l ", "m 0 0 s ", "m 0 0 b ", "m 0 1e2 "] {
+        for piece in [
+            DRAWN_MIX,
+            numbers,
+            "123.5 -45.25 ",
+            "m 1 2 ",
+            "x ",
+            " ",
+            "é",
+            "",
+        ] {
+            drawings.push(longest(front, piece));
+        }
+    }
+    let made = random(|random| {
+        let mut text = Vec::new();
+        drawing(random, &mut text);
+        text
+    });
+    drawings
+        .into_iter()
+        .map(String::into_bytes)
+        .chain(made)
+        .collect()
+}
+
+fn random(text: impl Fn(&mut Random) -> Vec<u8>) -> impl Iterator<Item = Vec<u8>> {
+    (0..500).map(move |case| text(&mut Random::new(1, case)))
+}
+
+/// Arguments of the reading calls: each text with a whole table and with none.
+pub fn reading(texts: &[Vec<u8>], words: &mut [u32]) -> Vec<Arguments> {
+    let table = words.as_mut_ptr() as u64;
+    let inputs = texts.iter().flat_map(|text| {
+        let [address, bytes] = bytes_of(text);
+        [words.len() as u64, 0].map(|count| [address, bytes, table, count, 0, 0, 0, 0])
+    });
+    inputs.collect()
+}
+
+/// Each drawing at small and large exponents, with a whole path and with none.
+pub fn drawings(texts: &[Vec<u8>], words: &mut [u32]) -> Vec<Arguments> {
+    let inputs = reading(texts, words).into_iter().flat_map(|input| {
+        let [address, bytes, path, count, ..] = input;
+        [0, 1, 32, 33].map(|exponent| [address, bytes, exponent, path, count, 0, 0, 0])
+    });
+    inputs.collect()
+}
+
+pub fn clips(texts: &[Vec<u8>]) -> Vec<Arguments> {
+    let inputs = texts.iter().map(|text| {
+        let [address, bytes] = bytes_of(text);
+        [address, bytes, 0, 0, 0, 0, 0, 0]
+    });
+    inputs.collect()
+}
+
+fn bytes_of(text: &[u8]) -> [u64; 2] {
+    [text.as_ptr() as u64, text.len() as u64]
+}
