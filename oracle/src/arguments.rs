@@ -7,6 +7,7 @@ usage: compare SUITE [--seed S] [--count N] [--random-only] [--self]
        compare sample SUITE [--seed S] [--count N] --inputs FILE --answers FILE
        compare cost KIND BYTES SIDE TIMES
        compare bench [--rounds N] [--only WORDS] [--require]
+       compare row NAME SIDE TIMES
        compare stack
 SUITE: leaves, blocks, drawings, clips, evaluate, marks, karaoke, progress, styles";
 

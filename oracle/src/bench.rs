@@ -142,6 +142,24 @@ pub fn run(words: &[String]) -> Option<bool> {
     Some(slow.is_empty() || !options.require)
 }
 
+/// One side alone on a row's texts, for a profiler to watch; `None`: bad words, or the archives
+/// lack the call.
+pub fn run_row(words: &[String]) -> Option<()> {
+    let [name, side, times] = words else {
+        return None;
+    };
+    let times = times.parse().ok()?;
+    let row = rows().into_iter().find(|row| row.name == name)?;
+    match side.as_str() {
+        "library" => {
+            calls::ours(row.call, &row.texts, times, &mut vec![0; calls::WORDS])?;
+        }
+        "rust" => calls::rust(row.call, &row.texts, times),
+        _ => return None,
+    }
+    Some(())
+}
+
 /// Nanoseconds of a call, medians; the quartiles of the rounds' ratios.
 struct Measured {
     rust: f64,
@@ -222,6 +240,15 @@ mod tests {
             calls::rust(row.call, &row.texts, 1);
             let _ = row.check(&mut lent);
         }
+    }
+
+    #[test]
+    fn one_side_runs_a_row() {
+        let run =
+            |name: &str, side: &str| run_row(&[name.to_owned(), side.to_owned(), "2".to_owned()]);
+        assert!(run("clip arguments", "rust").is_some());
+        assert!(run("clip", "rust").is_none());
+        assert!(run("clip arguments", "c").is_none());
     }
 
     #[test]

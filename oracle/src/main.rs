@@ -43,6 +43,7 @@ fn main() -> ExitCode {
     match words.first().map(String::as_str) {
         Some("cost") => status(cost::run(&words[1..]).map(|()| true)),
         Some("bench") => status(bench::run(&words[1..])),
+        Some("row") => status(bench::run_row(&words[1..]).map(|()| true)),
         Some("stack") if words.len() == 1 => status(Some(stack::run())),
         _ => match parse(&words) {
             Some(command) => dispatch(&command),
