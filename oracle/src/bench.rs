@@ -117,14 +117,18 @@ pub fn run(words: &[String]) -> Option<bool> {
         eprintln!("{USAGE}");
         return None;
     };
+    let mut rows = rows();
+    rows.retain(|row| row.name.contains(&options.only));
+    if rows.is_empty() {
+        eprintln!("bench: no row has {}", options.only);
+        return None;
+    }
     println!(
         "{:<32} {:>5} {:>11} {:>11} {:>9}  quartiles",
         "row", "bytes", "Rust ns", "ours ns", "Rust/ours"
     );
     let mut lent = vec![0; calls::WORDS];
     let mut slow = Vec::new();
-    let mut rows = rows();
-    rows.retain(|row| row.name.contains(&options.only));
     for row in &rows {
         if row.check(&mut lent).is_none() {
             eprintln!("bench: the archives lack the call of: {}", row.name);
