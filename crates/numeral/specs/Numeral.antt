@@ -1,8 +1,7 @@
 -- Numbers as text writes them. 01, Numerals.
-use mathlib.Core.Path.{_≡_}
 use mathlib.Core.List.{List}
 use mathlib.Core.Bool.{Bool, false}
-use Prim.Native.Nat.{ℕ, zero, suc, _+_, _-_, _*_, _^_, _≤_}
+use Prim.Native.Nat.{ℕ, zero, suc, _+_, _-_, _*_, _^_}
 use lib.ListN.{getD}
 use lib.Dec.{ltb, leb, eqb}
 use lib.IntN.{ℤ, pos, negℤ}
@@ -128,12 +127,3 @@ abbrev pub f32At : List ℕ → ℕ → ℕ → F32
 f32At s p q =
     let a = trimStart s p q in
     f32Of s a (trimEnd s a q)
-
--- the digits of a numeral and the order of their places
-pub record Split (s : List ℕ) (a b : ℕ) (d : Decimal) : Type 0 where
-  pub is : d ≡ splitAt s a b
-  pub low : a ≤ d .from
-  pub whole-low : d .from ≤ d .whole
-  pub fraction-low : d .whole ≤ d .fraction
-  pub end-low : d .fraction ≤ d .end
-  pub high : d .end ≤ b
