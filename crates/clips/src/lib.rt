@@ -4,7 +4,7 @@ ghost use mathlib.Core.Bool.{true};
 ghost use Prim.Native.Nat.{_≤_};
 ghost use lib.ListN.{length};
 ghost use Rattle.scan.specs.Scan.{inClass, spanTo, Place};
-ghost use Rattle.scan.specs.Passed.{Passed};
+ghost use Rattle.scan.specs.Inner.{Passed};
 ghost use Rattle.scan.specs.declared.Class.the-variants.{Not};
 ghost use Rattle.clips.specs.Clip.{atLeastOne, clipParts, clipOf, restOf, ClipIn, Splits};
 

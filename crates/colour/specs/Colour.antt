@@ -1,8 +1,7 @@
 -- Alphas and colours: Rust's `parse_alpha_byte` and `parse_color_rgb`, by positions. 01, Numerals: hexadecimal follows Rust's u32.
-use mathlib.Core.Path.{_≡_}
 use mathlib.Core.List.{List}
 use mathlib.Core.Bool.{Bool}
-use Prim.Native.Nat.{ℕ, _+_, _-_, _/_, _%_, _≤_, min}
+use Prim.Native.Nat.{ℕ, _+_, _-_, _/_, _%_, min}
 use lib.ListN.{getD}
 use lib.Dec.{leb, eqb}
 use Rattle.scan.specs.Scan.{pick, inClass, spanTo, backTo, skipTo, trimStart, trimEnd}
@@ -67,10 +66,3 @@ colourAt s p q =
     let e = backTo isAmpersand s (d .from) (d .to) in
     let t = trimmed s (d .from) e in
     rgb (hexAt s (t .from) (t .to))
-
--- a part that a definition names, between two places
-pub record Inside (p q : ℕ) (d r : Part) : Type 0 where
-  pub is : r ≡ d
-  pub low : p ≤ r .from
-  pub order : r .from ≤ r .to
-  pub high : r .to ≤ q

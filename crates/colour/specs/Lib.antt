@@ -1,2 +1,3 @@
 pub mod Colour
+pub mod Inner
 pub mod Sheet

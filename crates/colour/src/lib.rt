@@ -2,7 +2,8 @@
 ghost use mathlib.Core.Path.{_≡_};
 ghost use Prim.Native.Nat.{_+_, _-_, _≤_, _<_, min};
 ghost use lib.ListN.{length};
-ghost use Rattle.colour.specs.Colour.{trimmed as trimmedTo, ampersands as ampersandsTo, zeroXAt, digits, cap, rgb, alphaAt, colourAt, Inside};
+ghost use Rattle.colour.specs.Colour.{trimmed as trimmedTo, ampersands as ampersandsTo, zeroXAt, digits, cap, rgb, alphaAt, colourAt};
+ghost use Rattle.colour.specs.Inner.{Inside};
 ghost use Rattle.scan.specs.Scan.{skipTo, Place};
 
 // A part of the text, from one place to another.

@@ -11,7 +11,7 @@ use lib.Ieee.{Float, binary32, toBits, ofBits}
 use lib.ListN.{length, getD, drop}
 use lib.Seq.{drop-cons}
 use borrow.Author.Tests.{eq-eqb, ne-eqb, lt-ltb, le-ltb, le-leb, lt-leb, ltb-true}
-use Rattle.scan.specs.Passed.{Passed}
+use Rattle.scan.specs.Inner.{Passed}
 use Rattle.scan.specs.Scan.{blankAt, trimStart, trimEnd}
 use Rattle.scan.proofs.Laws.{picked, skip-low, blank-at-fits}
 use Rattle.numeral.specs.Numeral.{F32, none, tooLong, number, f32At, wordOfF32}

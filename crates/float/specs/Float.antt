@@ -10,6 +10,9 @@ use lib.Ieee.Positive.{num, den}
 abbrev pub zero : Float
 zero = fin false 0 (pos 0)
 
+abbrev pub one : Float
+one = fin false 1 (pos 0)
+
 -- 01, Evaluation: "`max(0.0)` gives plus zero unless the value is above zero"
 unfoldable pub maxZero : Float → Float
 unfolding lt
@@ -30,7 +33,11 @@ unfoldable pub toRadians : Float → Float
 unfolding ofBits ofInt div mul
 toRadians x = mul binary32 x (div binary32 (ofBits binary32 0x40490FDB) (ofInt binary32 (pos 180)))
 
--- 1,000,000,000
+-- 01's bound on the magnitude of floats and times: "within ±1,000,000,000"
+abbrev pub reach : ℕ
+reach = 1000000000
+
+-- the same as a float
 abbrev pub billion : Float
 billion = fin false 1953125 (pos 9)
 

@@ -4,7 +4,7 @@ use mathlib.Core.Bool.{true, false}
 use lib.IntN.{pos, negsuc}
 use lib.Ieee.{nan, inf, fin, binary32, round, ofBits, toBits, ofInt, toSigned, toUnsigned}
 use Rattle.decimal.specs.Decimal.{decimal}
-use Rattle.float.specs.Float.{zero, maxZero, clamp, lerp, toRadians, inReach, roundAway, roundByte, toWord, ofWord}
+use Rattle.float.specs.Float.{zero, one, maxZero, clamp, lerp, toRadians, reach, billion, inReach, roundAway, roundByte, toWord, ofWord}
 
 -- max(0.0) of -0 and of a NaN is plus zero
 max-minus-zero : maxZero (fin true 0 (pos 0)) ≡ zero
@@ -16,11 +16,11 @@ unfolding maxZero
 max-nan = refl
 
 -- a clamp keeps -0 and a NaN
-clamp-minus-zero : clamp (fin true 0 (pos 0)) zero (fin false 1 (pos 0)) ≡ fin true 0 (pos 0)
+clamp-minus-zero : clamp (fin true 0 (pos 0)) zero one ≡ fin true 0 (pos 0)
 unfolding clamp
 clamp-minus-zero = refl
 
-clamp-nan : clamp nan zero (fin false 1 (pos 0)) ≡ nan
+clamp-nan : clamp nan zero one ≡ nan
 unfolding clamp
 clamp-nan = refl
 
@@ -82,7 +82,11 @@ byte-above : roundByte (decimal false 300 0) ≡ 255
 unfolding roundByte round
 byte-above = refl
 
--- 1,000,000,000 is in reach, the next value and a NaN are not
+-- 1,000,000,000 is a float; it is in reach, the next value and a NaN are not
+reach-float : ofInt binary32 (pos reach) ≡ billion
+unfolding ofInt
+reach-float = refl
+
 reach-top : inReach (ofBits binary32 0x4E6E6B28) ≡ true
 unfolding inReach ofBits
 reach-top = refl

@@ -8,7 +8,7 @@ use native.Mathlib.Omega.{arith}
 use lib.ListN.{length, getD, set}
 use lib.Seq.{paste, paste-suc}
 use borrow.Author.Tests.{le-leb, lt-leb}
-use Rattle.lists.specs.Lists.{itemsTo, numbersOf}
+use Rattle.lists.specs.Inner.{itemsTo, numbersOf}
 use Rattle.lists.specs.declared.Numbers.{Numbers}
 use Rattle.leaves.specs.Leaves.{leaf, packedList, packedPlace, listLeaf, laid, listWords}
 

@@ -14,7 +14,7 @@ use Rattle.numeral.specs.declared.Numeral.the-variants.{No, TooLong, Word}
 use Rattle.colour.specs.Colour.{alphaAt, colourAt}
 use Rattle.colour.specs.declared.Colour.{Colour}
 use Rattle.colour.specs.declared.Colour.the-variants as colour
-use Rattle.lists.specs.Lists.{itemsTo, numbersOf}
+use Rattle.lists.specs.Inner.{itemsTo, numbersOf}
 use Rattle.lists.specs.declared.Found.{Found}
 use Rattle.lists.specs.declared.Found.the-variants.{Nowhere, At}
 use Rattle.float.specs.Float.{zero, inReach, toWord}

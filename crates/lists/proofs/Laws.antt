@@ -14,7 +14,8 @@ use Rattle.numeral.specs.declared.Numeral.{Numeral}
 use Rattle.lists.specs.declared.Numbers.{Numbers}
 use Rattle.lists.specs.declared.Found.{Found}
 use Rattle.lists.specs.declared.Found.the-variants.{Nowhere, At}
-use Rattle.lists.specs.Lists.{Part, commaTo, split, parts, itemAt, items, itemsTo, isWord, wordOf, longOf, firstOf, allWords, filled, firstLong, numbersOf}
+use Rattle.lists.specs.Lists.{Part, commaTo, split, parts, firstOf}
+use Rattle.lists.specs.Inner.{itemAt, items, itemsTo, isWord, wordOf, longOf, allWords, filled, firstLong, numbersOf}
 
 -- more fuel than there are bytes left changes nothing
 fuel : (s : List ℕ) (e n m p : ℕ) → p ≤ e → e ≤ p + n → e ≤ p + m → split s e n p ≡ split s e m p

@@ -13,7 +13,8 @@ use Rattle.numeral.specs.Sheet.{bytes}
 use Rattle.lists.specs.declared.Numbers.{Numbers}
 use Rattle.lists.specs.declared.Found.{Found}
 use Rattle.lists.specs.declared.Found.the-variants.{Nowhere, At}
-use Rattle.lists.specs.Lists.{split, items, itemsTo, wordOf, allWords, filled, firstLong, numbersOf}
+use Rattle.lists.specs.Lists.{split}
+use Rattle.lists.specs.Inner.{items, itemsTo, wordOf, allWords, filled, firstLong, numbersOf}
 
 -- what a list holds
 abbrev pub holds : Bool → ℕ → List ℕ → Found → Numbers

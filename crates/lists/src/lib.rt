@@ -4,7 +4,8 @@ ghost use mathlib.Core.Bool.{false};
 ghost use Prim.Native.Nat.{_≤_};
 ghost use lib.ListN.{length, set};
 ghost use Rattle.scan.specs.Scan.{pick};
-ghost use Rattle.lists.specs.Lists.{itemAt, itemsTo, isWord, wordOf, longOf, firstOf, numbersOf};
+ghost use Rattle.lists.specs.Lists.{firstOf};
+ghost use Rattle.lists.specs.Inner.{itemAt, itemsTo, isWord, wordOf, longOf, numbersOf};
 
 // A place of the text, or none.
 pub enum Found {

@@ -1,2 +1,3 @@
 pub mod Numeral
+pub mod Inner
 pub mod Sheet

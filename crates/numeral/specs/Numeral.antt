@@ -1,8 +1,7 @@
 -- Numbers as text writes them. 01, Numerals.
-use mathlib.Core.Path.{_≡_}
 use mathlib.Core.List.{List}
 use mathlib.Core.Bool.{Bool, false}
-use Prim.Native.Nat.{ℕ, zero, suc, _+_, _-_, _*_, _^_, _≤_}
+use Prim.Native.Nat.{ℕ, zero, suc, _+_, _-_, _*_, _^_}
 use lib.ListN.{getD}
 use lib.Dec.{ltb, leb, eqb}
 use lib.IntN.{ℤ, pos, negℤ}
@@ -110,26 +109,21 @@ floatOf s a b d =
     (value 10 s (d .end - d .fraction) (d .fraction) (value 10 s (d .whole - d .from) (d .from) 0))
     (10 ^ (d .end - d .fraction))
 
--- 01, Numerals: a good one has at least one digit and at most 9 on each side of the point; one that is otherwise good, or has an exponent, is too long
+-- 01, Numerals: "over 9 digits before or after the point"
+abbrev pub mostDigits : ℕ
+mostDigits = 9
+
+-- 01, Numerals: a good one has at least one digit and at most `mostDigits` on each side of the point; one that is otherwise good, or has an exponent, is too long
 unfoldable pub f32Of : List ℕ → ℕ → ℕ → F32
 f32Of s a b =
     let d = splitAt s a b in
     let x = floatOf s a b d in
     pick (eqb (d .whole - d .from + (d .end - d .fraction)) 0) none
     (pick (ltb (d .end) b) (pick (exponentAt s (d .end) b) (tooLong a) none)
-    (pick (leb (d .whole - d .from) 9) (pick (leb (d .end - d .fraction) 9) (number x) (tooLong a)) (tooLong a)))
+    (pick (leb (d .whole - d .from) mostDigits) (pick (leb (d .end - d .fraction) mostDigits) (number x) (tooLong a)) (tooLong a)))
 
 -- the same, blanks around it dropped
 abbrev pub f32At : List ℕ → ℕ → ℕ → F32
 f32At s p q =
     let a = trimStart s p q in
     f32Of s a (trimEnd s a q)
-
--- the digits of a numeral and the order of their places
-pub record Split (s : List ℕ) (a b : ℕ) (d : Decimal) : Type 0 where
-  pub is : d ≡ splitAt s a b
-  pub low : a ≤ d .from
-  pub whole-low : d .from ≤ d .whole
-  pub fraction-low : d .whole ≤ d .fraction
-  pub end-low : d .fraction ≤ d .end
-  pub high : d .end ≤ b

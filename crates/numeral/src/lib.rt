@@ -4,7 +4,8 @@ ghost use Prim.Native.Nat.{_+_, _-_, _*_, _≤_, _<_, min};
 ghost use Rattle.scan.specs.Scan.{spanTo, Place};
 ghost use lib.ListN.{length};
 ghost use lib.Ieee.{binary32, toBits};
-ghost use Rattle.numeral.specs.Numeral.{value as valueOf, isDigit, most, wholeNumber, upTo, wordOfI32, i32At, hexAt, Split, exponentAt, floatOf, wordOfF32, f32Of, f32At};
+ghost use Rattle.numeral.specs.Inner.{Split};
+ghost use Rattle.numeral.specs.Numeral.{value as valueOf, isDigit, most, wholeNumber, upTo, wordOfI32, i32At, hexAt, exponentAt, floatOf, wordOfF32, f32Of, f32At};
 
 // What a field holds: no number, a numeral that is too long with the place of its first byte, or the word of a number.
 pub enum Numeral {

@@ -14,7 +14,8 @@ use Rattle.float.specs.Float.{zero as plusZero, toWord}
 use Rattle.numeral.specs.Numeral.{F32, number, tooLong, f32At, I32, whole, i32At, wordOfF32, wordOfI32}
 use Rattle.numeral.specs.declared.Numeral.{Numeral}
 use Rattle.lists.specs.declared.Numbers.{Numbers}
-use Rattle.lists.specs.Lists.{Part, parts, items, wordOf, isWord, allWords, filled}
+use Rattle.lists.specs.Lists.{Part, parts}
+use Rattle.lists.specs.Inner.{items, wordOf, isWord, allWords, filled}
 use Rattle.tag.specs.Table.{bits}
 use Rattle.plain.specs.Plain.{isNumber, isWhole, f32s, allFloats, floatsIn, nth, i32s, allInts, intsIn, nthInt}
 use Rattle.plain.specs.Coded.{nthWord, numbersAt}

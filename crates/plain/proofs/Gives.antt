@@ -11,8 +11,9 @@ use lib.ListN.{length, getD}
 use borrow.Author.Tests.{lt-leb, ne-eqb}
 use Rattle.scan.specs.Scan.{pick, trimStart, trimEnd}
 use Rattle.numeral.specs.Numeral.{F32, tooLong, number, f32At, I32, whole, wordOfF32, wordOfI32}
-use Rattle.lists.specs.Lists as Lists
-use Rattle.lists.specs.Lists.{Part, items, longOf, firstOf}
+use Rattle.lists.specs.Inner as Lists
+use Rattle.lists.specs.Lists.{Part, firstOf}
+use Rattle.lists.specs.Inner.{items, longOf}
 use Rattle.lists.specs.declared.Numbers.{Numbers}
 use Rattle.lists.specs.declared.Found.{Found}
 use Rattle.tag.specs.declared.Record.{Record}

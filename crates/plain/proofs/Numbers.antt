@@ -14,7 +14,7 @@ use Rattle.scan.proofs.Laws.{picked, le-or-lt}
 use Rattle.float.specs.Float.{zero as plusZero, toWord}
 use Rattle.numeral.specs.Numeral.{F32, tooLong, number, f32Of, f32At, isSign, isMinus, wholeNumber, I32, whole, i32Of, i32At, wordOfF32, wordOfI32}
 use Rattle.numeral.proofs.Reach.{number-in-reach}
-use Rattle.lists.specs.Lists.{wordOf}
+use Rattle.lists.specs.Inner.{wordOf}
 use Rattle.tag.specs.Table.{bits}
 use Rattle.plain.specs.Plain.{floatOf, intOf, notBelowZero, byteOf, isFar}
 use Rattle.plain.specs.Coded.{notBelowZeroWord, byteWord, farWord}

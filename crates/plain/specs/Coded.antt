@@ -10,7 +10,7 @@ use Rattle.float.specs.Float.{zero as plusZero, maxZero, roundAway, roundByte, 
 use Rattle.numeral.specs.Numeral.{f32At, i32At, wordOfF32, wordOfI32}
 use Rattle.numeral.specs.declared.Numeral.{Numeral}
 use Rattle.numeral.specs.declared.Numeral.the-variants.{No, TooLong, Word}
-use Rattle.lists.specs.Lists.{itemsTo, numbersOf}
+use Rattle.lists.specs.Inner.{itemsTo, numbersOf}
 use Rattle.lists.specs.declared.Found.{Found}
 use Rattle.lists.specs.declared.Found.the-variants.{Nowhere, At}
 use Rattle.lists.specs.declared.Numbers.{Numbers}

@@ -4,8 +4,9 @@ use Prim.Native.Nat.{ℕ, zero, suc, _-_, _/_, _%_, _^_, _≤_}
 use native.Mathlib.Nat.{not-suc-le-zero}
 use native.Mathlib.Omega.{arith}
 use lib.Ieee.{Float, binary32, mul, ofBits}
+use Rattle.float.specs.Float.{one}
 use Rattle.root.specs.Root.{sqrt}
-use Rattle.power.specs.Power.{one, times, ifOne, roots, power256}
+use Rattle.power.specs.Power.{times, ifOne, roots, power256}
 
 pub times-step : (i : ℕ) (x p : Float) → 1 ≤ i → times (i - 1) x (mul binary32 p x) ≡ times i x p
 unfolding times

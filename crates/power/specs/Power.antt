@@ -1,13 +1,9 @@
 -- powf(x, a) as 01, Evaluation, has it for 0 ≤ x ≤ 1 and a finite a. Outside of that the same steps are taken. Definitions only.
 use Prim.Native.Nat.{ℕ, zero, suc, _*_, _/_, _%_, _^_}
-use mathlib.Core.Bool.{false, cond}
-use lib.IntN.{pos}
-use lib.Ieee.{Float, fin, binary32, mul, div, neg, lt, eq}
-use Rattle.float.specs.Float.{zero as +0, scaledTo}
+use mathlib.Core.Bool.{cond}
+use lib.Ieee.{Float, binary32, mul, div, neg, lt, eq}
+use Rattle.float.specs.Float.{zero as +0, one, scaledTo}
 use Rattle.root.specs.Root.{sqrt}
-
-abbrev pub one : Float
-one = fin false 1 (pos 0)
 
 -- "multiply 1 by x as often as a's whole part says": p multiplied by x, n times over
 unfoldable pub times : ℕ → Float → Float → Float

@@ -4,8 +4,8 @@ use mathlib.Core.Bool.{true, false}
 use lib.IntN.{pos, negsuc}
 use lib.Ieee.{inf, fin, binary32, round, toBits}
 use Rattle.decimal.specs.Decimal.{decimal}
-use Rattle.float.specs.Float.{zero}
-use Rattle.power.specs.Power.{one, power}
+use Rattle.float.specs.Float.{zero, one}
+use Rattle.power.specs.Power.{power}
 
 -- 0.5 to the power 2, and 0.25 to the power 0.5
 square-of-half : power (decimal false 5 1) (decimal false 2 0) ≡ fin false 1 (negsuc 1)

@@ -10,7 +10,7 @@ use native.Mathlib.Decide.{decLe}
 use lib.ListN.{getD}
 use lib.Dec.{eqb, ltb}
 use borrow.Author.Tests.{eq-eqb, ne-eqb, lt-ltb, le-ltb, le-leb, lt-leb, ltb-true}
-use Rattle.scan.specs.Passed.{Passed}
+use Rattle.scan.specs.Inner.{Passed}
 use Rattle.scan.specs.declared.Class.the-variants.{Digit}
 use Rattle.scan.specs.Scan.{pick, digitOf, inClass, isBlank, blankAt, blankBefore, span, spanTo, back, backTo, skip, skipTo, skipBack, trimEnd, opened, closing, closingTo}
 

@@ -3,7 +3,7 @@ ghost use mathlib.Core.Path.{_≡_};
 ghost use Prim.Native.Nat.{ℕ, _+_, _-_, _^_, _≤_, _<_};
 ghost use lib.ListN.{length, getD};
 ghost use Rattle.scan.specs.Scan.{digitOf, inClass, isBlank, blankAt, blankBefore, spanTo, backTo, trimStart, trimEnd, past as pastTo, opened as openedBy, closingTo, Place};
-ghost use Rattle.scan.specs.Passed.{Passed};
+ghost use Rattle.scan.specs.Inner.{Passed};
 ghost use Rattle.scan.specs.declared.Class.the-variants.{Digit, Letter, Not, Below};
 ghost use mathlib.Core.Bool.{not};
 ghost use lib.Dec.{eqb, ltb};

@@ -5,7 +5,7 @@ use Prim.Native.Nat.{ℕ, _-_, _≤_}
 use native.Mathlib.Omega.{arith}
 use borrow.Author.Tests.{ne-eqb}
 use Rattle.scan.specs.Scan.{inClass}
-use Rattle.scan.specs.Passed.{Passed}
+use Rattle.scan.specs.Inner.{Passed}
 use Rattle.scan.proofs.Laws.{passed-none, passed-more}
 use Rattle.scan.specs.declared.Class.the-variants.{Not}
 use borrow.Author.Needs.{needs}

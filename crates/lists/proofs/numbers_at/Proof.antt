@@ -1,7 +1,7 @@
 use Prim.Native.Nat.{_-_, _≤_}
 use native.Mathlib.Omega.{arith}
 use borrow.Author.Needs.{needs}
-use Rattle.lists.specs.Lists.{itemsTo}
+use Rattle.lists.specs.Inner.{itemsTo}
 use Rattle.lists.proofs.Laws.{items-last, items-more, Listing, listing-start, listing-turn, listing-end}
 use Rattle.lists.proofs.numbers_at.Statement.{statement}
 use Rattle.lists.proofs.numbers_at.Tie as tie

@@ -3,7 +3,8 @@ use Prim.Native.Nat.{_-_, _/_, _%_, _^_, _≤_}
 use native.Mathlib.Omega.{arith}
 use lib.Ieee.{Float, binary32, mul}
 use borrow.Author.Needs.{needs}
-use Rattle.power.specs.Power.{one, times, ifOne, roots, power256}
+use Rattle.float.specs.Float.{one}
+use Rattle.power.specs.Power.{times, ifOne, roots, power256}
 use Rattle.power.proofs.Law.{a-one, times-step, times-end, roots-step, roots-end, if-one, if-zero, power-is}
 use Rattle.power.proofs.power_256.Statement.{statement}
 use Rattle.power.proofs.power_256.Tie as tie

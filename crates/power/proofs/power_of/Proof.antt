@@ -1,10 +1,10 @@
 use mathlib.Core.Path.{sym, ap, _∙_}
 use mathlib.Core.Bool.{Bool, false, cond}
 use lib.Ieee.{Float, binary32, div, lt, neg, ofBits}
-use Rattle.float.specs.Float.{zero}
+use Rattle.float.specs.Float.{zero, one}
 use Rattle.float.proofs.Sign.{is-above, is-below}
 use Rattle.float.proofs.Law.{flipped}
-use Rattle.power.specs.Power.{one, powerUp, power}
+use Rattle.power.specs.Power.{powerUp, power}
 use Rattle.power.proofs.power_of.Statement.{statement}
 use Rattle.power.proofs.power_of.Tie as tie
 

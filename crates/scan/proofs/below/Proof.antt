@@ -2,7 +2,7 @@ use mathlib.Core.Path.{sym, _∙_}
 use native.Mathlib.Omega.{arith}
 use lib.ListN.{getD}
 use borrow.Author.Tests.{lt-ltb}
-use Rattle.scan.specs.Passed.{Passed}
+use Rattle.scan.specs.Inner.{Passed}
 use Rattle.scan.specs.Scan.{inClass}
 use Rattle.scan.specs.declared.Class.the-variants.{Below}
 use Rattle.scan.proofs.Laws.{passed-span, span-end}

@@ -2,7 +2,7 @@ use Prim.Native.Nat.{_+_, _-_}
 use native.Mathlib.Omega.{arith}
 use lib.Dec.{ltb}
 use borrow.Author.Tests.{lt-ltb}
-use Rattle.scan.specs.Passed.{Passed}
+use Rattle.scan.specs.Inner.{Passed}
 use Rattle.scan.proofs.Laws.{passed-none, passed-more}
 use borrow.Author.Needs.{needs}
 use Rattle.scan.proofs.clear.Statement.{statement}

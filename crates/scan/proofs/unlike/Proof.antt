@@ -4,7 +4,7 @@ use mathlib.Core.Bool.{not}
 use native.Mathlib.Omega.{arith}
 use lib.Dec.{eqb}
 use borrow.Author.Tests.{ne-eqb}
-use Rattle.scan.specs.Passed.{Passed}
+use Rattle.scan.specs.Inner.{Passed}
 use Rattle.scan.proofs.Laws.{passed-none, passed-more}
 use borrow.Author.Needs.{needs}
 use Rattle.scan.proofs.unlike.Statement.{statement}

@@ -27,7 +27,7 @@ slice-write-table-7 : tie.Need-slice-write-table-7
 slice-write-table-7 c = simp length-set (omega arith)
 
 slice-write-table-8 : tie.Need-slice-write-table-8
-slice-write-table-8 c = search needs
+slice-write-table-8 c = simp length-set (omega arith)
 
 same-length : tie.Need-same-length
 same-length c = search needs
