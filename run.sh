@@ -69,12 +69,41 @@ cd "$(dirname "${BASH_SOURCE[0]}")"
 command -v rt >/dev/null || stop "rt is not on the PATH: the Rattle kit is missing"
 [ "$(uname -sm)" = "Linux x86_64" ] || stop "the program is built for Linux on x86-64, and this is $(uname -sm)"
 
+# The crates that the program needs, itself among them.
+declare -A uses=() needed=()
+while IFS=$': \t' read -r crate list; do
+    [ -z "$crate" ] || uses[$crate]=$list
+done < <(sed 's/#.*//' crates.txt)
+need() { # CRATE
+    local crate
+    [[ -v uses[$1] && ! -v needed[$1] ]] || return 0
+    needed[$1]=1
+    for crate in ${uses[$1]}; do need "$crate"; done
+}
+need "$program"
+
+# Keeps what rt says, and tells of each crate as it is proved: on a terminal in one line, written anew.
+tell() {
+    local line count=0 form='%s\n' wipe=''
+    while IFS= read -r line; do
+        printf '%s\n' "$line" >>"$log"
+        [[ $line =~ ^rt:\ ([a-z0-9_]+)\ proved\ \((.*)\)$ ]] || continue
+        count=$((count + 1))
+        [[ ${BASH_REMATCH[2]} != unchanged* ]] || continue
+        if [ -t 2 ]; then form='\r\033[K%s' wipe='\r\033[K'; fi
+        # shellcheck disable=SC2059
+        printf "$form" "run.sh: ${BASH_REMATCH[1]} proved (${BASH_REMATCH[2]}), $count of ${#needed[@]} crates" >&2
+    done
+    # shellcheck disable=SC2059
+    printf "$wipe" >&2
+}
+
 # rt proves again only what has changed.
 log=$(mktemp)
 trap 'rm -f "$log"' EXIT
 [ -x "target/bin/$program" ] || printf 'run.sh: proving and building, which takes minutes the first time\n' >&2
 status=0
-rt check "$program" >"$log" 2>&1 || status=$?
+rt check "$program" 2>&1 </dev/null | tell || status=$?
 if [ "$status" -ne 0 ]; then
     tail -n 40 "$log" >&2
     printf 'run.sh: rt check %s ended with status %s\n' "$program" "$status" >&2

@@ -1,9 +1,10 @@
 //! Stored lists: inputs and answers, a line a case, for replay by other programs.
 
+use std::fmt::Display;
 use std::fs::File;
 use std::io::{BufWriter, Result, Write};
 
-use crate::hex::hex_words;
+use crate::hex::{hex_text, hex_words};
 use crate::random::Random;
 use crate::suite::Suite;
 
@@ -12,6 +13,12 @@ pub trait Sampled: Suite {
     fn input_line(&self, case: &Self::Case) -> String;
     /// A case fit for a list.
     fn sample(&self, random: &mut Random) -> Self::Case;
+}
+
+/// An input line: a name, words, and a text that is empty where the call takes none.
+pub fn line(name: impl Display, words: &[u32], text: &[u8]) -> String {
+    let arguments = format!("{} {}", hex_words(words), hex_text(text));
+    format!("{name}{}", arguments.to_ascii_lowercase())
 }
 
 /// A case whose line is short; one in a hundred may be long.
@@ -51,15 +58,13 @@ pub fn write<S: Sampled>(
 /// The result as 16 digits, then every lent word as the call leaves it.
 fn answer_line<S: Sampled>(suite: &S, case: &S::Case) -> String {
     let answer = suite.answer(case);
-    let mut words: Vec<u32> = (0..suite.lent_words(case)).map(word_before).collect();
+    let mut words = vec![WORD_BEFORE; suite.lent_words(case)];
     words[..answer.written.len()].copy_from_slice(&answer.written);
-    format!("{:016X}{}", answer.result, hex_words(&words))
+    format!("{:016X}{}", answer.result, hex_words(&words)).to_ascii_lowercase()
 }
 
 /// What a lent word holds before the call.
-fn word_before(place: usize) -> u32 {
-    0xA5A5_0000u32.wrapping_add(place as u32)
-}
+const WORD_BEFORE: u32 = 0xA5A5_A5A5;
 
 #[cfg(test)]
 mod tests {
@@ -78,15 +83,17 @@ mod tests {
     #[test]
     fn lines_have_the_stated_form() {
         let (input, answer) = lines(false, 9, b"\\i1");
-        assert_eq!(input, "O 00000009 5C6931");
-        let words = "0000002B 00000001 00000000 00000000 00000000 00000000 00000000 00000000";
-        assert_eq!(answer, format!("0000000000000001 {words} A5A50008"));
+        assert_eq!(input, "O 00000009 5c6931");
+        let words = "0000002b 00000001 00000000 00000000 00000000 00000000 00000000 00000000";
+        assert_eq!(answer, format!("0000000000000001 {words} a5a5a5a5"));
         let (input, answer) = lines(true, 1, b"{\\i1}");
-        assert_eq!(input, "R 00000001 7B5C69317D");
-        assert_eq!(answer, "0009000000000001 A5A50000");
+        assert_eq!(input, "R 00000001 7b5c69317d");
+        assert_eq!(answer, "0009000000000001 a5a5a5a5");
         assert_eq!(
             lines(false, 0, b""),
             ("O 00000000 ".into(), "0000000000000000".into())
         );
+        assert_eq!(line("Lp", &[0x3F80_0000, 10], b""), "Lp 3f800000 0000000a ");
+        assert_eq!(line('C', &[], b"2,m"), "C 322c6d");
     }
 }

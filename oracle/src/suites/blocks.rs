@@ -6,13 +6,13 @@ use crate::built::animate;
 use crate::generate::block::{block, nested_block, raw_block};
 use crate::generate::exhaustive::texts;
 use crate::generate::size::{lent_words, long_text, many};
-use crate::hex::{hex_text, show_text};
+use crate::hex::show_text;
 use crate::library::{hannuvel_parse_overrides, hannuvel_parse_raw_block};
 use crate::random::Random;
 use crate::rule::block as rule;
 use crate::rule::numeral::ascii;
 use crate::rule::refusal;
-use crate::sample::{Sampled, short_sample};
+use crate::sample::{Sampled, line, short_sample};
 use crate::shrink::{Cases, simpler_sizes, simpler_texts};
 use crate::suite::{Answer, Suite};
 
@@ -198,7 +198,7 @@ impl Suite for Blocks {
 impl Sampled for Blocks {
     fn input_line(&self, case: &Case) -> String {
         let letter = if case.raw { 'R' } else { 'O' };
-        format!("{letter} {:08X} {}", case.words, hex_text(&case.text))
+        line(letter, &[case.words as u32], &case.text)
     }
 
     fn sample(&self, random: &mut Random) -> Case {

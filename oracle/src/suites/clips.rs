@@ -5,12 +5,12 @@ use crate::generate::drawing::clip_argument;
 use crate::generate::exhaustive::texts;
 use crate::generate::size::long_text;
 use crate::generate::text::{damage, noise};
-use crate::hex::{hex_text, show_text};
+use crate::hex::show_text;
 use crate::library::hannuvel_split_clip_arg;
 use crate::random::Random;
 use crate::rule::numeral::ascii;
 use crate::rule::refusal;
-use crate::sample::{Sampled, short_sample};
+use crate::sample::{Sampled, line, short_sample};
 use crate::shrink::{Cases, simpler_texts};
 use crate::suite::{Answer, Suite};
 
@@ -101,7 +101,7 @@ impl Suite for Clips {
 
 impl Sampled for Clips {
     fn input_line(&self, text: &Vec<u8>) -> String {
-        format!("C {}", hex_text(text))
+        line('C', &[], text)
     }
 
     fn sample(&self, random: &mut Random) -> Vec<u8> {

@@ -5,13 +5,13 @@ use crate::generate::drawing::drawing;
 use crate::generate::exhaustive::texts;
 use crate::generate::size::{lent_words, long_text, many};
 use crate::generate::text::{damage, noise};
-use crate::hex::{hex_text, show_text};
+use crate::hex::show_text;
 use crate::library::hannuvel_parse_drawing;
 use crate::random::Random;
 use crate::rule::drawing::refused_token;
 use crate::rule::numeral::ascii;
 use crate::rule::refusal;
-use crate::sample::{Sampled, short_sample};
+use crate::sample::{Sampled, line, short_sample};
 use crate::shrink::{Cases, simpler_sizes, simpler_texts};
 use crate::suite::{Answer, Suite};
 
@@ -195,8 +195,7 @@ impl Suite for Drawings {
 
 impl Sampled for Drawings {
     fn input_line(&self, case: &Case) -> String {
-        let text = hex_text(&case.text);
-        format!("D {:08X} {:08X} {text}", case.exponent, case.words)
+        line('D', &[case.exponent, case.words as u32], &case.text)
     }
 
     fn sample(&self, random: &mut Random) -> Case {

@@ -5,11 +5,10 @@ use crate::answer::decode::tags;
 use crate::answer::state::{STATE_WORDS, with_named_bytes, words};
 use crate::built::animate::{CueAnimation, RenderState};
 use crate::generate::table::instant;
-use crate::hex::hex_words;
 use crate::library::hannuvel_evaluate_at;
 use crate::random::Random;
 use crate::rule::refusal;
-use crate::sample::{Sampled, short_sample};
+use crate::sample::{Sampled, line, short_sample};
 use crate::shrink::Cases;
 use crate::suite::{Answer, Suite};
 
@@ -75,9 +74,10 @@ impl Case {
     }
 
     /// Two words and the table's.
-    pub fn line(&self) -> String {
-        let numbers = hex_words(&[self.t as u32, self.duration as u32]);
-        numbers + &hex_words(&self.source.words)
+    pub fn words(&self) -> Vec<u32> {
+        let mut words = vec![self.t as u32, self.duration as u32];
+        words.extend(&self.source.words);
+        words
     }
 
     pub fn simpler(&self) -> Cases<'_, Case> {
@@ -161,7 +161,7 @@ impl Suite for Evaluate {
 
 impl Sampled for Evaluate {
     fn input_line(&self, case: &Case) -> String {
-        format!("E{}", case.line())
+        line('E', &case.words(), b"")
     }
 
     fn sample(&self, random: &mut Random) -> Case {

@@ -5,11 +5,10 @@ use crate::answer::decode::tags;
 use crate::answer::record::karaoke_kind;
 use crate::built::animate::CueAnimation;
 use crate::generate::size::lent_words;
-use crate::hex::hex_words;
 use crate::library::hannuvel_karaoke_spans;
 use crate::random::Random;
 use crate::rule::refusal;
-use crate::sample::{Sampled, short_sample};
+use crate::sample::{Sampled, line, short_sample};
 use crate::shrink::{Cases, simpler_sizes};
 use crate::suite::{Answer, Suite};
 
@@ -129,8 +128,9 @@ impl Suite for Karaoke {
 
 impl Sampled for Karaoke {
     fn input_line(&self, case: &Case) -> String {
-        let size = hex_words(&[case.words as u32]);
-        format!("K{size}{}", hex_words(&case.source.words))
+        let mut words = vec![case.words as u32];
+        words.extend(&case.source.words);
+        line('K', &words, b"")
     }
 
     fn sample(&self, random: &mut Random) -> Case {

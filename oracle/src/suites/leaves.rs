@@ -3,10 +3,10 @@
 use crate::generate::exhaustive::texts;
 use crate::generate::number::{PATTERNS, hexadecimal, numeral, pattern, whole};
 use crate::generate::text::{damage, noise};
-use crate::hex::{hex_text, hex_words, show_text};
+use crate::hex::show_text;
 use crate::leaves::{LIST_WORDS, Leaf, Work, leaves};
 use crate::random::Random;
-use crate::sample::Sampled;
+use crate::sample::{Sampled, line};
 use crate::shrink::{Cases, simpler_sizes, simpler_texts};
 use crate::suite::{Answer, Suite};
 
@@ -303,12 +303,10 @@ fn simpler_words(words: &[u32; 3]) -> impl Iterator<Item = [u32; 3]> + '_ {
 
 impl Sampled for Leaves {
     fn input_line(&self, case: &Case) -> String {
-        let letter = self.leaves[case.leaf].letter;
+        let name = format!("L{}", self.leaves[case.leaf].letter);
         match &case.input {
-            Input::Text(text) | Input::List(text, _) => format!("{letter} {}", hex_text(text)),
-            Input::Words(words) => {
-                format!("{letter}{}", hex_words(&words[..self.arity(case.leaf)]))
-            }
+            Input::Text(text) | Input::List(text, _) => line(name, &[], text),
+            Input::Words(words) => line(name, &words[..self.arity(case.leaf)], b""),
         }
     }
 

@@ -5,7 +5,7 @@ use crate::library::hannuvel_next_mark;
 use crate::random::Random;
 use crate::rule::marks::next_mark;
 use crate::rule::refusal;
-use crate::sample::{Sampled, short_sample};
+use crate::sample::{Sampled, line, short_sample};
 use crate::shrink::Cases;
 use crate::suite::{Answer, Suite};
 
@@ -65,7 +65,7 @@ impl Suite for Marks {
 
 impl Sampled for Marks {
     fn input_line(&self, case: &Case) -> String {
-        format!("M{}", case.line())
+        line('M', &case.words(), b"")
     }
 
     fn sample(&self, random: &mut Random) -> Case {

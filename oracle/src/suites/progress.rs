@@ -2,11 +2,10 @@
 //! there, against the rule alone (01, Karaoke).
 
 use crate::built::animate::{KaraokeKind, KaraokeSpan};
-use crate::hex::hex_words;
 use crate::library::hannuvel_progress;
 use crate::random::Random;
 use crate::rule::refusal;
-use crate::sample::Sampled;
+use crate::sample::{Sampled, line};
 use crate::shrink::Cases;
 use crate::suite::{Answer, Suite};
 
@@ -149,7 +148,7 @@ impl Suite for Progress {
 
 impl Sampled for Progress {
     fn input_line(&self, case: &Case) -> String {
-        format!("G{}", hex_words(&[case.start, case.end, case.t as u32]))
+        line('G', &[case.start, case.end, case.t as u32], b"")
     }
 
     fn sample(&self, random: &mut Random) -> Case {

@@ -4,11 +4,11 @@ use super::evaluate;
 use super::source::Source;
 use crate::answer::decode::parts;
 use crate::generate::size::long_text;
-use crate::hex::{hex_text, show_text};
+use crate::hex::show_text;
 use crate::library::hannuvel_style_in_force;
 use crate::random::Random;
 use crate::rule::refusal::{answered, refused, text as refused_text};
-use crate::sample::{Sampled, short_sample};
+use crate::sample::{Sampled, line, short_sample};
 use crate::shrink::{Cases, simpler_texts};
 use crate::suite::{Answer, Suite};
 
@@ -146,8 +146,9 @@ impl Suite for Styles {
 
 impl Sampled for Styles {
     fn input_line(&self, case: &Case) -> String {
-        let (block, own) = (hex_text(&case.block), hex_text(&case.own));
-        format!("S {block} {own}{}", case.evaluated.line())
+        let mut words = vec![case.block.len() as u32];
+        words.extend(case.evaluated.words());
+        line('S', &words, &[&case.block[..], &case.own].concat())
     }
 
     fn sample(&self, random: &mut Random) -> Case {

@@ -1,0 +1,77 @@
+// Replays a stored list: each line of standard input names a call and gives its words and its text, and standard output has a line for each, with the result and every word that was lent.
+mod leaf;
+
+// A block, on the number of table words and a text.
+fn overrides(words: &[u32], text: &[u8], lent: &mut [u32]) {
+    if words.len() != 1 {
+        return stored::write_unknown();
+    }
+    let n = stored::part(words[0], lent.len());
+    let r = hannuvel::hannuvel_parse_overrides(text, &mut lent[0..n]);
+    stored::write(r, &lent[0..n]);
+}
+
+// A block in braces, on the number of table words and a text.
+fn raw_block(words: &[u32], text: &[u8], lent: &mut [u32]) {
+    if words.len() != 1 {
+        return stored::write_unknown();
+    }
+    let n = stored::part(words[0], lent.len());
+    let r = hannuvel::hannuvel_parse_raw_block(text, &mut lent[0..n]);
+    stored::write(r, &lent[0..n]);
+}
+
+// A drawing, on its scale's exponent, the number of path words and a text.
+fn drawing(words: &[u32], text: &[u8], lent: &mut [u32]) {
+    if words.len() != 2 {
+        return stored::write_unknown();
+    }
+    let n = stored::part(words[1], lent.len());
+    let r = hannuvel::hannuvel_parse_drawing(text, words[0], &mut lent[0..n]);
+    stored::write(r, &lent[0..n]);
+}
+
+// A clip argument.
+fn clip(text: &[u8]) {
+    stored::write(hannuvel::hannuvel_split_clip_arg(text), &[]);
+}
+
+// Makes a call and writes its answer.
+fn answer(call: u8, leaf: u8, words: &[u32], text: &[u8], lent: &mut [u32]) {
+    match call {
+        b'L' => leaf::answer(leaf, words, text),
+        b'O' => overrides(words, text, lent),
+        b'R' => raw_block(words, text, lent),
+        b'D' => drawing(words, text, lent),
+        b'C' => clip(text),
+        _ => stored::write_unknown(),
+    }
+}
+
+fn answer_line(line: &[u8]) {
+    let mut words = stored::words_buffer();
+    let mut text = stored::text_buffer();
+    let mut lent = stored::lent_buffer();
+    let parsed = stored::parse(line, &mut words, &mut text);
+    let w = parsed.words;
+    let n = parsed.bytes;
+    answer(parsed.call, parsed.leaf, &words[..w], &text[..n], &mut lent);
+}
+
+// Answers the lines of standard input, up to 2 ^ 64.
+fn replay(line: &mut [u8]) {
+    let mut turns = u64::MAX;
+    while turns > 0 {
+        let n = stored::read_line(line);
+        if n == 0 {
+            return;
+        }
+        answer_line(&line[..n]);
+        turns -= 1;
+    }
+}
+
+fn main() {
+    let mut line = stored::line_buffer();
+    replay(&mut line);
+}
