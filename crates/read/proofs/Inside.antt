@@ -16,6 +16,9 @@ use Rattle.numeral.specs.Numeral.{F32, number, tooLong, f32At, f32Of, splitAt, 
 use Rattle.numeral.specs.declared.Decimal.{Decimal}
 use Rattle.numeral.proofs.Laws.{f32-empty}
 use Rattle.numeral.proofs.Reach.{Bounded, number-in-reach}
+use Rattle.survey.specs.Survey.{Unplain}
+use Rattle.survey.proofs.Laws.{unplain-wider}
+use Rattle.survey.proofs.Long.{long-unplain}
 use Rattle.lists.specs.Lists.{firstOf}
 use Rattle.lists.specs.declared.Found.{Found}
 use Rattle.lists.specs.declared.Found.the-variants.{Nowhere, At}
@@ -71,30 +74,35 @@ trim-end-low s i e h = skip-back-low s i (e - i) e h
 
 -- ---- numerals
 
--- a place, if there is one, from i on and before e
-pub data Between (i e : ℕ) : Found → Type 0 where
-  nowhere : Between i e Nowhere
-  there : (p : ℕ) → i ≤ p → p < e → Between i e (At p)
+-- a place, if there is one, from i on and before e, where the text is not plain
+pub data Between (s : List ℕ) (i e : ℕ) : Found → Type 0 where
+  nowhere : Between s i e Nowhere
+  there : (p : ℕ) → i ≤ p → p < e → Unplain s i e → Between s i e (At p)
 
-pub between-at : {i e : ℕ} {f : Found} → Between i e f → (p : ℕ) → f ≡ At p → (i ≤ p) × (p < e)
+pub between-at : {s : List ℕ} {i e : ℕ} {f : Found} → Between s i e f → (p : ℕ) → f ≡ At p → (i ≤ p) × (p < e)
 between-at nowhere p q = absurd (let z : _≡_ {A = ℕ} 0 1 = cc in omega arith)
-between-at (there k l h) p q =
+between-at (there k l h u) p q =
     let z : k ≡ p = cc in
     (omega arith, omega arith)
 
-pub between-wider : {i j k e : ℕ} {f : Found} → i ≤ j → k ≤ e → Between j k f → Between i e f
+pub between-wider : {s : List ℕ} {i j k e : ℕ} {f : Found} → i ≤ j → k ≤ e → Between s j k f → Between s i e f
 between-wider a b nowhere = nowhere
-between-wider a b (there p l h) = there p (omega arith) (omega arith)
+between-wider a b (there p l h u) = there p (omega arith) (omega arith) (unplain-wider a b u)
 
-pub between-first : {i e : ℕ} {f g : Found} → Between i e f → Between i e g → Between i e (firstOf f g)
+pub between-first : {s : List ℕ} {i e : ℕ} {f g : Found} → Between s i e f → Between s i e g → Between s i e (firstOf f g)
 between-first nowhere b = b
-between-first (there p l h) b = there p l h
+between-first (there p l h u) b = there p l h u
 
--- an f32 is in reach, and a numeral that is too long stands in the text from p to q
-pub data F32In (p q : ℕ) : F32 → Type 0 where
-  no-numeral : F32In p q F32.none
-  too-long : (k : ℕ) → p ≤ k → k < q → F32In p q (tooLong k)
-  a-number : {x : Float} → Bounded x → F32In p q (number x)
+-- in a plain text there is none
+pub between-none : {s : List ℕ} {i e : ℕ} {f : Found} → (Unplain s i e → ⊥) → Between s i e f → f ≡ Nowhere
+between-none h nowhere = refl
+between-none h (there p l k u) = absurd (h u)
+
+-- an f32 is in reach, and a numeral that is too long stands in the text from p to q, which is not plain
+pub data F32In (s : List ℕ) (p q : ℕ) : F32 → Type 0 where
+  no-numeral : F32In s p q F32.none
+  too-long : (k : ℕ) → p ≤ k → k < q → Unplain s p q → F32In s p q (tooLong k)
+  a-number : {x : Float} → Bounded x → F32In s p q (number x)
 
 module _ (s : List ℕ) (a b : ℕ) where
   abbrev d : Decimal
@@ -120,24 +128,24 @@ module _ (s : List ℕ) (a b : ℕ) where
       let d : splitAt s a b ≡ record { from = a; whole = a; fraction = a; end = a } = simp (le-ltb a b h, span-end isDigit s a b h) in
       sym (f32-empty s a b (record { from = a; whole = a; fraction = a; end = a }) (sym d) (omega arith))
 
-  f32-of-in : F32In a b (f32Of s a b)
+  f32-of-in : F32In s a b (f32Of s a b)
   f32-of-in = go (f32Of s a b) refl at-front
     where
-      go : (x : F32) → f32Of s a b ≡ x → AtFront x → F32In a b x
+      go : (x : F32) → f32Of s a b ≡ x → AtFront x → F32In s a b x
       go F32.none e f = no-numeral
       go (tooLong k) e f =
           ⊎-elim
           (λ (h : b ≤ a). absurd (let z : _≡_ {A = ℕ} 0 1 = cc (f32-nowhere h) in omega arith))
-          (λ (h : a < b). too-long k (omega arith) (omega arith))
+          (λ (h : a < b). too-long k (omega arith) (omega arith) (long-unplain s a b k e))
           (le-or-lt b a)
       go (number x) e f = a-number (number-in-reach s a b x e)
 
-pub f32-wider : {p a b q : ℕ} {x : F32} → p ≤ a → b ≤ q → F32In a b x → F32In p q x
+pub f32-wider : {s : List ℕ} {p a b q : ℕ} {x : F32} → p ≤ a → b ≤ q → F32In s a b x → F32In s p q x
 f32-wider l h no-numeral = no-numeral
-f32-wider l h (too-long k m n) = too-long k (omega arith) (omega arith)
+f32-wider l h (too-long k m n u) = too-long k (omega arith) (omega arith) (unplain-wider l h u)
 f32-wider l h (a-number b) = a-number b
 
-pub f32-in : (s : List ℕ) (p q : ℕ) → F32In p q (f32At s p q)
+pub f32-in : (s : List ℕ) (p q : ℕ) → F32In s p q (f32At s p q)
 f32-in s p q =
     let a = trimStart s p q in
     f32-wider (trim-start-low s p q) (trim-end-high s a q) (f32-of-in s a (trimEnd s a q))

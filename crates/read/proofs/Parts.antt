@@ -1,16 +1,19 @@
 -- The parts of a text lie inside it, one behind the other; and what holds of each of them holds of all that a reading gives.
-use mathlib.Core.Path.{refl}
+use mathlib.Core.Path.{_≡_, refl}
+use mathlib.Core.Bool.{Bool, true, false}
 use mathlib.Core.List.{List}
 use Prim.Native.Nat.{ℕ, zero, suc, _+_, _-_, _≤_, _<_}
 use native.Mathlib.Omega.{arith}
 use native.Mathlib.Nat.{le-refl, le-trans}
 use lib.ListN.{length, getD}
 use lib.Dec.{ltb, eqb}
+use borrow.Author.Tests.{eqb-true}
 use Rattle.scan.specs.Scan.{pick, inClass, spanTo, past, trimStart, opened, closing, closingTo, trimEnd}
 use Rattle.scan.specs.declared.Class.the-variants.{Digit, Letter, Is, Not, Neither}
 use Rattle.scan.proofs.Laws.{picked, span-low, closing-low}
 use Rattle.numeral.specs.Numeral.{F32}
 use Rattle.numeral.proofs.Reach.{Bounded}
+use Rattle.survey.proofs.Laws.{unplain-wider}
 use Rattle.tag.specs.Tag.{append}
 use Rattle.plain.specs.Names.{keyAt, tKey}
 use Rattle.plain.specs.Plain.{plainAt}
@@ -73,41 +76,41 @@ head-in s i e h = param-in s (i + 1) (nameEnd s (i + 1) e) e (name-high s (i + 1
 -- ---- the numbers in front of a \t's tags
 
 -- the numbers are in reach, the tags begin between i and q, and so does a numeral that is too long
-pub record PeelIn (i q : ℕ) (l : Peel) : Type 0 where
+pub record PeelIn (s : List ℕ) (i q : ℕ) (l : Peel) : Type 0 where
   pub heads : All Bounded (l .heads)
   pub low : i ≤ l .rest
   pub high : l .rest ≤ q
-  pub long : Between i q (l .long)
+  pub long : Between s i q (l .long)
 
-peeled-in : {i j q : ℕ} → i ≤ j → j ≤ q → PeelIn i q (peeled j)
+peeled-in : {s : List ℕ} {i j q : ℕ} → i ≤ j → j ≤ q → PeelIn s i q (peeled j)
 peeled-in a b = record { heads = all; low = a; high = b; long = nowhere }
 
-later-in : {i j q : ℕ} {l : Peel} → i ≤ j → PeelIn j q l → PeelIn i q l
+later-in : {s : List ℕ} {i j q : ℕ} {l : Peel} → i ≤ j → PeelIn s j q l → PeelIn s i q l
 later-in {q = q} a l = record { heads = l .heads; low = omega (arith, l .low); high = l .high; long = between-wider a (le-refl q) (l .long) }
 
-module _ (i q k b : ℕ) (u : Peel) (low : i ≤ k) (high : k ≤ q) (g : k < q → PeelIn k q u) where
-  head-peels : {x : F32} → F32In i k x → PeelIn i q (peelHead x i q k b u)
+module _ (s : List ℕ) (i q k b : ℕ) (u : Peel) (low : i ≤ k) (high : k ≤ q) (g : k < q → PeelIn s k q u) where
+  head-peels : {x : F32} → F32In s i k x → PeelIn s i q (peelHead x i q k b u)
   head-peels no-numeral = peeled-in (le-refl i) (omega arith)
-  head-peels (too-long p m n) = record { heads = all; low = le-refl i; high = omega arith; long = there p m (omega arith) }
+  head-peels (too-long p m n v) = record { heads = all; low = le-refl i; high = omega arith; long = there p m (omega arith) (unplain-wider (le-refl i) high v) }
   head-peels (a-number x) =
-      let v : PeelIn k q (pick (ltb k q) (pick (eqb b 92) (peeled k) u) (peeled q)) =
-      tested (PeelIn k q) k q (λ (y : k < q). picked (PeelIn k q) (eqb b 92) _ _ (peeled-in (le-refl k) high) (g y)) (λ (y : q ≤ k). peeled-in high (le-refl q)) in
+      let v : PeelIn s k q (pick (ltb k q) (pick (eqb b 92) (peeled k) u) (peeled q)) =
+      tested (PeelIn s k q) k q (λ (y : k < q). picked (PeelIn s k q) (eqb b 92) _ _ (peeled-in (le-refl k) high) (g y)) (λ (y : q ≤ k). peeled-in high (le-refl q)) in
       let w = later-in low v in
       record { heads = more x (w .heads); low = w .low; high = w .high; long = w .long }
 
-peel-in : (s : List ℕ) (q n i : ℕ) → i ≤ q → PeelIn i q (peel s q n i)
+peel-in : (s : List ℕ) (q n i : ℕ) → i ≤ q → PeelIn s i q (peel s q n i)
 unfolding peel
 peel-in s q zero i h = peeled-in (le-refl i) h
 peel-in s q (suc n) i h =
     let k = headEnd s i q in
     let low : i ≤ headEnd s i q = span-low (inClass (Neither 44 92)) s (q - i) i in
-    head-peels i q k (getD s k 0) (peel s q n (trimStart s (k + 1) q)) low (span-to-high (inClass (Neither 44 92)) s i q h)
+    head-peels s i q k (getD s k 0) (peel s q n (trimStart s (k + 1) q)) low (span-to-high (inClass (Neither 44 92)) s i q h)
     (λ (y : headEnd s i q < q).
     let a : headEnd s i q + 1 ≤ trimStart s (headEnd s i q + 1) q = trim-start-low s (k + 1) q in
     later-in (omega arith) (peel-in s q n (trimStart s (k + 1) q) (trim-start-high s (k + 1) q (omega arith))))
     (f32-in s i k)
 
-pub peel-to-in : (s : List ℕ) (p q : ℕ) → p ≤ q → PeelIn p q (peelTo s p q)
+pub peel-to-in : (s : List ℕ) (p q : ℕ) → p ≤ q → PeelIn s p q (peelTo s p q)
 peel-to-in s p q h =
     let i = trimStart s p q in
     later-in (trim-start-low s p q) (peel-in s q (suc (q - i)) i (trim-start-high s p q h))
@@ -119,9 +122,17 @@ peel-to-in s p q h =
 module _ (s : List ℕ) (P : ℕ → ℕ → ℕ → Got → Type 0)
     (none-has : (d i e : ℕ) → i ≤ e → P d i e nothing)
     (join-has : (d i k e : ℕ) (g h : Got) → i ≤ k → k ≤ e → P d i k g → P d k e h → P d i e (join g h))
-    (plain-has : (d i m p q e : ℕ) → i < m → m ≤ p → p ≤ q → q ≤ e → P d i e (oneGot i (plainAt s (i + 1) m p q)))
-    (t-has : (d i p q e : ℕ) (l : Peel) (g : Got) → i < p → q ≤ e → PeelIn p q l → P d (l .rest) q g → P (suc d) i e (tOf l g)) where
-  walk-has : (d : ℕ) (inner : ℕ → ℕ → Got) → ((i p q e : ℕ) → i < p → p ≤ q → q ≤ e → P d i e (inner p q)) → (e n i : ℕ) → i ≤ e → P d i e (walk inner s e n i)
+    (plain-has : (d i m p q e : ℕ) → getD s i 0 ≡ 92 → i < m → m ≤ p → p ≤ q → q ≤ e → P d i e (oneGot i (plainAt s (i + 1) m p q)))
+    (t-has : (d i p q e : ℕ) (l : Peel) (g : Got) → getD s i 0 ≡ 92 → i < p → q ≤ e → PeelIn s p q l → P d (l .rest) q g → P (suc d) i e (tOf l g)) where
+  -- a byte that is a backslash, or any
+  slashed : (i : ℕ) (Q : Got → Type 0) {x y : Got} → (getD s i 0 ≡ 92 → Q x) → Q y → Q (pick (eqb (getD s i 0) 92) x y)
+  slashed i Q {x} {y} f g = go (eqb (getD s i 0) 92) refl
+    where
+      go : (b : Bool) → eqb (getD s i 0) 92 ≡ b → Q (pick b x y)
+      go true t = f (eqb-true (getD s i 0) 92 t)
+      go false t = g
+
+  walk-has : (d : ℕ) (inner : ℕ → ℕ → Got) → ((i p q e : ℕ) → getD s i 0 ≡ 92 → i < p → p ≤ q → q ≤ e → P d i e (inner p q)) → (e n i : ℕ) → i ≤ e → P d i e (walk inner s e n i)
   unfolding walk tagAt append
   walk-has d inner f e zero i h = none-has d i e h
   walk-has d inner f e (suc n) i h =
@@ -131,21 +142,21 @@ module _ (s : List ℕ) (P : ℕ → ℕ → ℕ → Got → Type 0)
       let b : i + 1 ≤ nameEnd s (i + 1) e = name-low s (i + 1) e in
       let after : i + 1 ≤ e = omega arith in
       let skip : P d i e (walk inner s e n (i + 1)) = join-has d i (i + 1) e nothing _ (omega arith) after (none-has d i (i + 1) (omega arith)) (walk-has d inner f e n (i + 1) after) in
-      picked (P d i e) (eqb (getD s i 0) 92) _ _
-      (picked (P d i e) (eqb (r .end) (i + 1)) _ _ skip
+      slashed i (P d i e)
+      (λ (z : getD s i 0 ≡ 92). picked (P d i e) (eqb (r .end) (i + 1)) _ _ skip
       (join-has d i (r .next) e _ _ (omega arith) (a .high)
-      (picked (P d i (r .next)) (eqb (keyAt s (r .name) (r .end)) tKey) _ _ (f i (r .p) (r .q) (r .next) (omega arith) (a .order) (a .next-low))
-      (rw (a .name-is) (plain-has d i (r .end) (r .p) (r .q) (r .next) (omega (arith, a .end-is)) (omega (arith, a .end-is, a .low)) (a .order) (a .next-low))))
+      (picked (P d i (r .next)) (eqb (keyAt s (r .name) (r .end)) tKey) _ _ (f i (r .p) (r .q) (r .next) z (omega arith) (a .order) (a .next-low))
+      (rw (a .name-is) (plain-has d i (r .end) (r .p) (r .q) (r .next) z (omega (arith, a .end-is)) (omega (arith, a .end-is, a .low)) (a .order) (a .next-low))))
       (walk-has d inner f e n (r .next) (a .high))))
       skip)
       (λ (l : e ≤ i). none-has d i e h)
 
   pub parse-has : (d i e : ℕ) → i ≤ e → P d i e (parse d s i e)
   unfolding parse
-  parse-has zero i e h = walk-has zero (λ p q. nothing) (λ i p q e a b c. none-has zero i e (omega arith)) e (e - i) i h
+  parse-has zero i e h = walk-has zero (λ p q. nothing) (λ i p q e z a b c. none-has zero i e (omega arith)) e (e - i) i h
   parse-has (suc d) i e h =
       walk-has (suc d) (λ p q. let l = peelTo s p q in tOf l (parse d s (l .rest) q))
-      (λ i p q e a b c. let l = peel-to-in s p q b in t-has d i p q e (peelTo s p q) (parse d s (peelTo s p q .rest) q) a c l (parse-has d (peelTo s p q .rest) q (l .high)))
+      (λ i p q e z a b c. let l = peel-to-in s p q b in t-has d i p q e (peelTo s p q) (parse d s (peelTo s p q .rest) q) z a c l (parse-has d (peelTo s p q .rest) q (l .high)))
       e (e - i) i h
 
 -- ---- the part of the text that a call reads
