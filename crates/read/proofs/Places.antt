@@ -1,6 +1,7 @@
 -- Every place and count that an answer names lies within the text.
-use mathlib.Core.Path.{_≡_}
+use mathlib.Core.Path.{_≡_, refl}
 use mathlib.Core.List.{List, []}
+use mathlib.Core.Logic.{inl}
 use Prim.Native.Nat.{ℕ, _+_, _-_, _≤_, _<_, min}
 use native.Mathlib.Omega.{arith}
 use native.Mathlib.Nat.{le-refl, le-trans}
@@ -33,47 +34,48 @@ use Rattle.read.proofs.Fine.{Fine, nothing, late, tag, away, plain-fine
 use Rattle.read.proofs.Parts.{PeelIn, parse-has, SpanIn}
 
 -- 01, Grounds: the place of ground 3 and of ground 4 is in the text from i to e, and it gives no more tags than it has bytes
-pub record Placed (s : List ℕ) (i e : ℕ) (g : Got) : Type 0 where
-  pub long : Between s i e (g .long)
-  pub far : Between s i e (g .far)
+pub record Placed (s : List ℕ) (top i e : ℕ) (g : Got) : Type 0 where
+  pub long : Between s top i e (g .long)
+  pub far : Between s top i e (g .far)
   pub few : keptTags g ≤ slashesTo s i e
 
-none-placed : (s : List ℕ) (i e : ℕ) → Placed s i e none
+none-placed : (s : List ℕ) (top i e : ℕ) → Placed s top i e none
 unfolding encode
-none-placed s i e = record { long = nowhere; far = nowhere; few = omega arith }
+none-placed s top i e = record { long = nowhere; far = nowhere; few = omega arith }
 
-join-placed : {s : List ℕ} {i k e : ℕ} (g h : Got) → i ≤ k → k ≤ e → Placed s i k g → Placed s k e h → Placed s i e (join g h)
-join-placed {s} {i} {k} {e} g h a b u v =
+join-placed : {s : List ℕ} {top i k e : ℕ} (g h : Got) → i ≤ k → k ≤ e → Placed s top i k g → Placed s top k e h → Placed s top i e (join g h)
+join-placed {s} {top} {i} {k} {e} g h a b u v =
     record {
       long = between-first (between-wider (le-refl i) b (u .long)) (between-wider a (le-refl e) (v .long));
       far = between-first (between-wider (le-refl i) b (u .far)) (between-wider a (le-refl e) (v .far));
       few = rw (encode-append (g .tags) (h .tags), length-append (encode (g .tags)) (encode (h .tags))) (omega (arith, u .few, v .few, slashes-split s i k e a b));
     }
 
-one-placed : {s : List ℕ} {i p q e : ℕ} {o : One} → getD s i 0 ≡ 92 → i < p → p ≤ q → q ≤ e → Fine s p q o → Single o → Placed s i e (oneGot i o)
+one-placed : {s : List ℕ} {top i p q e : ℕ} {o : One} → getD s i 0 ≡ 92 → i < p → p ≤ q → q ≤ e → Fine s top p q o → Single o → Placed s top i e (oneGot i o)
 unfolding encode
 one-placed z a b c nothing u = record { long = nowhere; far = nowhere; few = omega arith }
 one-placed z a b c (late k l h v) u = record { long = there k (omega arith) (omega arith) (unplain-wider (omega arith) c v); far = nowhere; few = omega arith }
-one-placed {s} {i} {p} {q} {e} z a b c (tag h) u = record { long = nowhere; far = nowhere; few = rw u (omega (arith, slashes-one s i e (omega arith) z)) }
-one-placed {s} {i} {p} {q} {e} z a b c (away h v) u = record { long = nowhere; far = there i (le-refl i) (omega arith) (unplain-wider (omega arith) c v); few = rw u (omega (arith, slashes-one s i e (omega arith) z)) }
+one-placed {s} {top} {i} {p} {q} {e} z a b c (tag h) u = record { long = nowhere; far = nowhere; few = rw u (omega (arith, slashes-one s i e (omega arith) z)) }
+one-placed {s} {top} {i} {p} {q} {e} z a b c (away h v) u = record { long = nowhere; far = there i (le-refl i) (omega arith) (unplain-wider (omega arith) c v); few = rw u (omega (arith, slashes-one s i e (omega arith) z)) }
 
-t-placed : {s : List ℕ} {i p q e : ℕ} (l : Peel) (g : Got) → getD s i 0 ≡ 92 → i < p → q ≤ e → PeelIn s p q l → Placed s (l .rest) q g → Placed s i e (tOf l g)
+t-placed : {s : List ℕ} {top i p q e : ℕ} (l : Peel) (g : Got) → getD s i 0 ≡ 92 → i < p → q ≤ e → PeelIn s top p q l → Placed s top (l .rest) q g → Placed s top i e (tOf l g)
 unfolding encode
-t-placed {s} {i} {p} {q} {e} l g z a b u v =
+t-placed {s} {top} {i} {p} {q} {e} l g z a b u v =
     record {
       long = between-first (between-wider (omega arith) b (u .long)) (between-wider (omega (arith, u .low)) b (v .long));
       far = between-wider (omega (arith, u .low)) b (v .far);
       few = rw (length-append (encode (g .tags)) []) (omega (arith, v .few, slashes-one s i e (omega (arith, u .low, u .high)) z, slashes-inside s (i + 1) (l .rest) q e (omega (arith, u .low)) (u .high) b));
     }
 
-pub placed : (d : ℕ) (s : List ℕ) (i e : ℕ) → i ≤ e → e ≤ mostBytes → Placed s i e (parse d s i e)
+pub placed : (d : ℕ) (s : List ℕ) (i e : ℕ) → i ≤ e → e ≤ mostBytes → Placed s e i e (parse d s i e)
 placed d s i e =
-    parse-has s (λ d i e g. e ≤ mostBytes → Placed s i e g)
-    (λ d i e l h. none-placed s i e)
+    let top = e in
+    λ h. parse-has s top (λ d i e g. e ≤ mostBytes → Placed s top i e g)
+    (λ d i e l h. none-placed s top i e)
     (λ d i k e g h a b u v l. join-placed g h a b (u (le-trans b l)) (v l))
-    (λ d i m p q e z a b c l h. one-placed z (omega arith) c l (plain-fine s p q c (le-trans l h) (i + 1) m (omega arith)) (plain-single s (i + 1) m p q))
+    (λ d i m p q e z a b c l m₁ n₁ h. one-placed z (omega arith) c l (plain-fine s top p q c (le-trans l h) m₁ n₁ (i + 1) m (omega arith)) (plain-single s (i + 1) m p q))
     (λ d i p q e l g z a b u v h. t-placed l g z a b u (v (le-trans b h)))
-    d i e
+    d i e h (le-refl e) (inl refl)
 
 module _ (d : ℕ) (s : List ℕ) (i e : ℕ) (order : i ≤ e) (short : e ≤ mostBytes) where
   -- ground 3: the first byte of a numeral
@@ -99,7 +101,7 @@ straight-read s x places inside good f =
 
 -- ---- an answer
 
-ground-placed : {s : List ℕ} {i e n : ℕ} {f g : Found} (places : ℕ) → Between s i e f → Between s i e g → n ≤ e - i → groundPlace (readGround f g n places) ≤ e
+ground-placed : {s : List ℕ} {top i e n : ℕ} {f g : Found} (places : ℕ) → Between s top i e f → Between s top i e g → n ≤ e - i → groundPlace (readGround f g n places) ≤ e
 unfolding readGround
 ground-placed places (there p a b u) v h = omega arith
 ground-placed places nowhere (there p a b u) h = omega arith

@@ -9,10 +9,10 @@ use native.Mathlib.Nat.{zero-add, le-refl, le-trans}
 use lib.Dec.{eqb}
 use lib.ListN.{getD}
 use borrow.Author.Tests.{eq-eqb, ne-eqb}
-use Rattle.scan.proofs.Laws.{more, none, le-or-lt, picked}
-use Rattle.scan.specs.Scan.{pick}
+use Rattle.scan.proofs.Laws.{more, none, le-or-lt, picked, span-low, passed-span}
+use Rattle.scan.specs.Scan.{pick, spanTo, back, backTo}
 use Rattle.numeral.specs.Numeral.{isDigit}
-use Rattle.survey.specs.Survey.{slashes, slashesTo, Ten, Exponent, Unplain, ten, exponent, Straight}
+use Rattle.survey.specs.Survey.{slashes, slashesTo, Ten, Exponent, endsField, Unplain, ten, exponent, Straight}
 
 -- ---- backslashes, one byte more
 
@@ -31,50 +31,29 @@ module _ (s : List ℕ) (i e : ℕ) where
 
 -- ---- runs of digits
 
--- up to i: `run` digits stand directly before i, and no more; a run of ten is no longer than `most`
-pub record Runs (s : List ℕ) (from i most run : ℕ) : Type 0 where
-  pub low : from ≤ i
-  pub inside : run ≤ i - from
-  pub stop : run < i - from → isDigit (getD s (i - run - 1) 0) ≡ false
-  pub longest : run ≤ most
-  pub none : most < 10 → (j : ℕ) → from ≤ j → j + 10 ≤ i → Ten s j → ⊥
+back-high : (p : ℕ → Bool) (s : List ℕ) (i n : ℕ) → back p s i n ≤ i + n
+unfolding back
+back-high p s i zero = omega arith
+back-high p s i (suc n) = let h : back p s i n ≤ i + n = back-high p s i n in picked (λ (r : ℕ). r ≤ i + suc n) (p (getD s (i + n) 0)) _ _ (omega arith) (omega arith)
 
-pub runs-none : (s : List ℕ) (from : ℕ) → Runs s from from 0 0
-runs-none s from = record { low = omega arith; inside = omega arith; stop = λ h. absurd (omega arith); longest = omega arith; none = λ h j a b t. omega arith }
+-- where all bytes from j to e pass, a scan back from e gets to j
+back-far : (p : ℕ → Bool) (s : List ℕ) (i n j : ℕ) → i ≤ j → j ≤ i + n → ((k : ℕ) → j ≤ k → k < i + n → p (getD s k 0) ≡ true) → back p s i n ≤ j
+unfolding back
+back-far p s i zero j a b f = a
+back-far p s i (suc n) j a b f =
+    ⊎-elim
+    (λ (h : j ≤ i + n). rw (f (i + n) h (omega arith)) (back-far p s i n j a h (λ k l m. f k l (omega arith))))
+    (λ (h : i + n < j). picked (λ (r : ℕ). r ≤ j) (p (getD s (i + n) 0)) _ _ (le-trans (back-high p s i n) (omega arith)) (omega arith))
+    (le-or-lt j (i + n))
 
-module _ {s : List ℕ} {from i most run : ℕ} (r : Runs s from i most run) where
-  -- a digit lengthens the run
-  pub runs-digit : (m : ℕ) → most ≤ m → run + 1 ≤ m → Runs s from (i + 1) m (run + 1)
-  runs-digit m h k =
-      let l = r .low in
-      let n = r .inside in
-      let z : i + 1 - (run + 1) - 1 ≡ i - run - 1 = omega arith in
-      record {
-        low = omega arith;
-        inside = omega arith;
-        stop = λ g. rw z (r .stop (omega arith));
-        longest = k;
-        none = λ g j a b t. ⊎-elim
-            (λ (u : j + 10 ≤ i). r .none (omega arith) j a u t)
-            (λ (u : i < j + 10). true≢false (sym (t (i - run - 1) (omega arith) (omega arith)) ∙ r .stop (omega arith)))
-            (le-or-lt (j + 10) i);
-      }
-
-  -- any other byte ends it
-  pub runs-other : isDigit (getD s i 0) ≡ false → Runs s from (i + 1) most 0
-  runs-other f =
-      let l = r .low in
-      let z : i + 1 - 0 - 1 ≡ i = omega arith in
-      record {
-        low = omega arith;
-        inside = omega arith;
-        stop = λ g. rw z f;
-        longest = omega arith;
-        none = λ g j a b t. ⊎-elim
-            (λ (u : j + 10 ≤ i). r .none g j a u t)
-            (λ (u : i < j + 10). true≢false (sym (t i (omega arith) (omega arith)) ∙ f))
-            (le-or-lt (j + 10) i);
-      }
+-- ten digits from j on, which k is among, are no more than stand around k
+pub ten-around : (s : List ℕ) (i k e j : ℕ) → i ≤ j → j ≤ k → k < j + 10 → j + 10 ≤ e → Ten s j → spanTo isDigit s k e - backTo isDigit s i k ≤ 9 → ⊥
+ten-around s i k e j a b c h t f =
+    let z : i + (k - i) ≡ k = omega arith in
+    let l : backTo isDigit s i k ≤ j = back-far isDigit s i (k - i) j a (omega arith) (λ m u v. t m u (omega arith)) in
+    let q = passed-span isDigit s k e (j + 10) (record { low = omega arith; high = h; all = λ m u v. t m (omega arith) v }) in
+    let r : j + 10 ≤ spanTo isDigit s k e = rw q (span-low isDigit s (e - (j + 10)) (j + 10)) in
+    omega arith
 
 -- ---- the whole look
 
@@ -82,18 +61,18 @@ module _ {s : List ℕ} {from i most run : ℕ} (r : Runs s from i most run) whe
 pub never : (s : List ℕ) (i e places : ℕ) → false ≡ true → Straight s i e places
 never s i e places h = absurd (true≢false (sym h))
 
-pub straight-is : (s : List ℕ) (i e places : ℕ) → slashesTo s i e ≤ places → ((j : ℕ) → i ≤ j → j + 1 < e → Exponent s j → ⊥) → ((j : ℕ) → i ≤ j → j + 10 ≤ e → Ten s j → ⊥) → Straight s i e places
+pub straight-is : (s : List ℕ) (i e places : ℕ) → slashesTo s i e ≤ places → ((j : ℕ) → i ≤ j → j + 1 < e → Exponent s j → endsField s (j + 1) e ≡ true → ⊥) → ((j : ℕ) → i ≤ j → j + 10 ≤ e → Ten s j → ⊥) → Straight s i e places
 straight-is s i e places f x t = record { plain = plain; few = f }
   where
-    plain : Unplain s i e → ⊥
+    plain : Unplain s e i e → ⊥
     plain (ten j a b h) = t j a b h
-    plain (exponent j a b h) = x j a b h
+    plain (exponent j a b h k) = x j a b h k
 
 -- ---- a wider text
 
-pub unplain-wider : {s : List ℕ} {i j k e : ℕ} → i ≤ j → k ≤ e → Unplain s j k → Unplain s i e
+pub unplain-wider : {s : List ℕ} {top i j k e : ℕ} → i ≤ j → k ≤ e → Unplain s top j k → Unplain s top i e
 unplain-wider a b (ten m l h t) = ten m (omega arith) (omega arith) t
-unplain-wider a b (exponent m l h t) = exponent m (omega arith) (omega arith) t
+unplain-wider a b (exponent m l h t u) = exponent m (omega arith) (omega arith) t u
 
 -- backslashes from i to k and from k to e
 slashes-add : (s : List ℕ) (n m i : ℕ) → slashes s (n + m) i ≡ slashes s n i + slashes s m (i + n)

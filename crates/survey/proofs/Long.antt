@@ -9,14 +9,13 @@ use native.Mathlib.Nat.{le-refl, lt-of-lt-of-le, lt-of-le-of-lt, one-mul, pow-le
 use lib.Dec.{ltb, leb, eqb, lit<}
 use lib.IntN.{ℤ, pos, negℤ, natAbs}
 use lib.ListN.{getD}
-use borrow.Author.Tests.{ltb-true, leb-true, eqb-true}
-use Rattle.scan.specs.Scan.{pick, inClass, span, spanTo, past}
-use Rattle.scan.specs.declared.Class.the-variants.{Digit}
-use Rattle.scan.proofs.Laws.{le-or-lt, zero-or, more, span-low, span-high, picked}
+use borrow.Author.Tests.{lt-ltb, le-ltb, le-leb, lt-leb, ne-eqb, ltb-true, leb-true, eqb-true}
+use Rattle.scan.specs.Scan.{pick, isBlank, span, spanTo, past}
+use Rattle.scan.proofs.Laws.{le-or-lt, zero-or, span-low, span-high, span-end, span-stop, passed-span, picked}
 use Rattle.numeral.specs.declared.Decimal.{Decimal}
 use Rattle.numeral.specs.Numeral.{isDigit, isSign, isMinus, isPoint, isE, value, most, wholeNumber, I32, whole, i32Of, splitAt, exponentAt, F32, tooLong, f32Of}
-use Rattle.numeral.proofs.Laws.{f32-empty, f32-rest, f32-number, value-below}
-use Rattle.survey.specs.Survey.{Ten, isExponent, Unplain, ten, exponent}
+use Rattle.numeral.proofs.Laws.{f32-empty, f32-rest, f32-number, value-below, no-digit-below, no-digit-above}
+use Rattle.survey.specs.Survey.{Ten, isExponent, isStop, endsField, Unplain, ten, exponent}
 
 -- ---- bytes that a scan passes
 
@@ -49,9 +48,46 @@ past-is p s i e h = go (ltb i e) (p (getD s i 0)) refl h
 past-least : (p : ℕ → Bool) (s : List ℕ) (i e : ℕ) → (i ≤ past p s i e) × (past p s i e ≤ i + 1)
 past-least p s i e = picked (λ (j : ℕ). (i ≤ j) × (j ≤ i + 1)) (ltb i e) _ _ (picked (λ (j : ℕ). (i ≤ j) × (j ≤ i + 1)) (p (getD s i 0)) _ _ (omega arith, le-refl (i + 1)) (le-refl i, omega arith)) (le-refl i, omega arith)
 
+-- ---- the end of a field
+
+-- at q stands what ends a field, or the text ends
+abbrev pub Ends : List ℕ → ℕ → ℕ → Type 0
+Ends s top q = (q ≡ top) ⊎ (isStop (getD s q 0) ≡ true)
+
+pub blank-stops : (b : ℕ) → isBlank b ≡ true → isStop b ≡ true
+unfolding isStop
+blank-stops b e = rw e
+
+pub byte-stops : (b c : ℕ) → eqb b c ≡ true → isStop c ≡ true → isStop b ≡ true
+byte-stops b c e f = rw (eqb-true b c e) f
+
+-- no digit does
+stop-no-digit : (b : ℕ) → isStop b ≡ true → isDigit b ≡ false
+unfolding isStop
+stop-no-digit b e =
+    ⊎-elim
+    (λ (h : 48 ≤ b). ⊎-elim
+    (λ (k : 58 ≤ b). no-digit-above b (omega arith))
+    (λ (k : b < 58). absurd (true≢false (sym e ∙ rw (ne-eqb b 32 (λ z. omega arith), lt-leb b 13 (omega arith), le-leb 9 b (omega arith), ne-eqb b 41 (λ z. omega arith), ne-eqb b 44 (λ z. omega arith), ne-eqb b 92 (λ z. omega arith)))))
+    (le-or-lt 58 b))
+    (λ (h : b < 48). no-digit-below b h)
+    (le-or-lt 48 b)
+
+-- digits that fill a field are all the digits there are
+span-fills : (s : List ℕ) (top i b : ℕ) → i ≤ b → b ≤ top → Ends s top b → spanTo isDigit s i b ≡ b → spanTo isDigit s i top ≡ b
+span-fills s top i b l h f q =
+    passed-span isDigit s i top b (record { low = l; high = h; all = λ j m n. span-all isDigit s (b - i) i j m (rw q n) })
+    ∙ ⊎-elim
+    (λ (z : b ≡ top). span-end isDigit s b top (omega arith))
+    (λ (z : isStop (getD s b 0) ≡ true). ⊎-elim
+    (λ (m : top ≤ b). span-end isDigit s b top m)
+    (λ (m : b < top). span-stop isDigit s b top m (stop-no-digit (getD s b 0) z))
+    (le-or-lt top b))
+    f
+
 -- ---- numerals
 
-module _ (s : List ℕ) (a b : ℕ) where
+module _ (s : List ℕ) (top a b : ℕ) (high : b ≤ top) (ends : Ends s top b) where
   abbrev d : Decimal
   d = splitAt s a b
 
@@ -102,26 +138,43 @@ module _ (s : List ℕ) (a b : ℕ) where
       (λ (l : d .fraction < d .end). (omega (arith, u .from, u .whole-low, u .fraction), a-digit (d .end - 1) (span-all isDigit s (b - d .fraction) (d .fraction) (d .end - 1) (omega arith) (rw (← u .end-is) (omega arith)))))
       (le-or-lt (d .end) (d .fraction))
 
-  exponent-is : (i : ℕ) → exponentAt s i b ≡ true → isE (getD s i 0) ≡ true
-  unfolding exponentAt
-  exponent-is i e = go (ltb i (past isE s i b)) _ refl e
+  -- an exponent begins with an e and goes on to the end of its field
+  exponent-is : (i : ℕ) → exponentAt s i b ≡ true → (isE (getD s i 0) ≡ true) × (endsField s i top ≡ true)
+  unfolding exponentAt endsField
+  exponent-is i e = go (ltb i x) (ltb d′ b) (eqb (spanTo isDigit s d′ b) b) refl refl refl e
     where
-      go : (t r : Bool) → ltb i (past isE s i b) ≡ t → pick t r false ≡ true → isE (getD s i 0) ≡ true
-      go true r q f = past-is isE s i b (ltb-true i (past isE s i b) q)
-      go false r q f = absurd (true≢false (sym f))
+      x : ℕ
+      x = past isE s i b
 
-  exponent-here : ¬ (d .whole - d .from + (d .end - d .fraction) ≡ 0) → d .end < b → exponentAt s (d .end) b ≡ true → Unplain s a b
+      d′ : ℕ
+      d′ = past isSign s x b
+
+      go : (t u v : Bool) → ltb i x ≡ t → ltb d′ b ≡ u → eqb (spanTo isDigit s d′ b) b ≡ v → pick t (pick u v false) false ≡ true → (isE (getD s i 0) ≡ true) × (pick (ltb (spanTo isDigit s (past isSign s (i + 1) top) top) top) (isStop (getD s (spanTo isDigit s (past isSign s (i + 1) top) top) 0)) true ≡ true)
+      go true true true p q r f =
+          let l : i < x = ltb-true i x p in
+          let m : d′ < b = ltb-true d′ b q in
+          let n : x ≡ i + 1 = omega (arith, past-least isE s i b) in
+          let o : x ≤ d′ = past-least isSign s x b .0 in
+          let y : past isSign s (i + 1) top ≡ d′ = rw (lt-ltb (i + 1) top (omega arith), n, lt-ltb (i + 1) b (omega arith)) in
+          let w : spanTo isDigit s d′ top ≡ b = span-fills s top d′ b (omega arith) high ends (eqb-true (spanTo isDigit s d′ b) b r) in
+          (past-is isE s i b l, rw (y, w) (⊎-elim (λ (z : b ≡ top). rw (le-ltb b top (omega arith))) (λ (z : isStop (getD s b 0) ≡ true). rw z (picked (λ (t : Bool). t ≡ true) (ltb b top) true true refl refl)) ends))
+      go true true false p q r f = absurd (true≢false (sym f))
+      go true false v p q r f = absurd (true≢false (sym f))
+      go false u v p q r f = absurd (true≢false (sym f))
+
+  exponent-here : ¬ (d .whole - d .from + (d .end - d .fraction) ≡ 0) → d .end < b → exponentAt s (d .end) b ≡ true → Unplain s top a b
   unfolding isExponent
   exponent-here h l e =
       let u = last h in
       let z : d .end - 1 + 1 ≡ d .end = omega (arith, u .0) in
-      exponent (d .end - 1) (omega (arith, u .0)) (omega (arith, u .0)) (rw (z, exponent-is (d .end) e) (u .1))
+      let x = exponent-is (d .end) e in
+      exponent (d .end - 1) (omega (arith, u .0)) (omega (arith, u .0)) (rw (z, x .0) (u .1)) (rw z (x .1))
 
   -- a run of more than nine digits from i on
-  ten-here : (i j : ℕ) → a ≤ i → j ≡ spanTo isDigit s i b → 9 < j - i → Unplain s a b
+  ten-here : (i j : ℕ) → a ≤ i → j ≡ spanTo isDigit s i b → 9 < j - i → Unplain s top a b
   ten-here i j l q h = ten i l (omega (arith, span-high isDigit s (b - i) i)) (ten-of s (b - i) i j q h)
 
-  pub long-unplain : (k : ℕ) → f32Of s a b ≡ tooLong k → Unplain s a b
+  pub long-unplain : (k : ℕ) → f32Of s a b ≡ tooLong k → Unplain s top a b
   long-unplain k q =
       let u = split in
       ⊎-elim
@@ -138,26 +191,27 @@ module _ (s : List ℕ) (a b : ℕ) where
       (le-or-lt b (d .end)))
       (zero-or (d .whole - d .from + (d .end - d .fraction)))
     where
-      none : F32.none ≡ f32Of s a b → Unplain s a b
+      none : F32.none ≡ f32Of s a b → Unplain s top a b
       none e = absurd (let w : _≡_ {A = ℕ} 0 1 = cc in omega arith)
 
-      rest : ¬ (d .whole - d .from + (d .end - d .fraction) ≡ 0) → d .end < b → (t : Bool) → exponentAt s (d .end) b ≡ t → Unplain s a b
+      rest : ¬ (d .whole - d .from + (d .end - d .fraction) ≡ 0) → d .end < b → (t : Bool) → exponentAt s (d .end) b ≡ t → Unplain s top a b
       rest z l true e = exponent-here z l e
       rest z l false e = none (f32-rest s a b d refl z l e)
 
-  -- ---- whole numbers
+-- ---- whole numbers
 
+module _ (s : List ℕ) (top a b : ℕ) where
   -- one above 1,000,000,000 has ten digits
-  ten-digits : (i : ℕ) → a ≤ i → 1000000000 ≤ wholeNumber 10 s i b → wholeNumber 10 s i b < most → Unplain s a b
+  ten-digits : (i : ℕ) → a ≤ i → 1000000000 ≤ wholeNumber 10 s i b → wholeNumber 10 s i b < most → Unplain s top a b
   unfolding wholeNumber
   ten-digits i l h g = go (ltb i b) (eqb (spanTo isDigit s i b) b) refl h g
     where
-      go : (t u : Bool) → eqb (spanTo isDigit s i b) b ≡ u → 1000000000 ≤ pick t (pick u (value 10 s (b - i) i 0) most) most → pick t (pick u (value 10 s (b - i) i 0) most) most < most → Unplain s a b
+      go : (t u : Bool) → eqb (spanTo isDigit s i b) b ≡ u → 1000000000 ≤ pick t (pick u (value 10 s (b - i) i 0) most) most → pick t (pick u (value 10 s (b - i) i 0) most) most < most → Unplain s top a b
       go true true e h g =
           let q : b ≡ spanTo isDigit s i b = sym (eqb-true (spanTo isDigit s i b) b e) in
           ⊎-elim
           (λ (n : b - i ≤ 9). absurd (below n (value-below 10 s (lit< tt) (b - i) i 0 b q) h))
-          (λ (n : 9 < b - i). ten-here i b l q n)
+          (λ (n : 9 < b - i). ten i l (omega arith) (ten-of s (b - i) i b q n))
           (le-or-lt (b - i) 9)
         where
           below : b - i ≤ 9 → value 10 s (b - i) i 0 < 1 * 10 ^ (b - i) → 1000000000 ≤ value 10 s (b - i) i 0 → ⊥
@@ -169,7 +223,7 @@ module _ (s : List ℕ) (a b : ℕ) where
   size zero = refl
   size (suc n) = refl
 
-  pub far-unplain : (z : ℤ) → i32Of s a b ≡ whole z → 1000000000 < natAbs z → Unplain s a b
+  pub far-unplain : (z : ℤ) → i32Of s a b ≡ whole z → 1000000000 < natAbs z → Unplain s top a b
   unfolding i32Of
   far-unplain z q h =
       let i = past isSign s a b in
@@ -182,10 +236,10 @@ module _ (s : List ℕ) (a b : ℕ) where
       v : ℕ
       v = wholeNumber 10 s i b
 
-      far : 1000000000 < v → v ≤ 2147483648 → Unplain s a b
+      far : 1000000000 < v → v ≤ 2147483648 → Unplain s top a b
       far m n = ten-digits i (past-least isSign s a b .0) (omega arith) (lt-of-le-of-lt n (lit< tt))
 
-      go : (t x y : Bool) → leb v 2147483647 ≡ x → leb v 2147483648 ≡ y → pick t (pick x (whole (pos v)) I32.none) (pick y (whole (negℤ (pos v))) I32.none) ≡ whole z → Unplain s a b
+      go : (t x y : Bool) → leb v 2147483647 ≡ x → leb v 2147483648 ≡ y → pick t (pick x (whole (pos v)) I32.none) (pick y (whole (negℤ (pos v))) I32.none) ≡ whole z → Unplain s top a b
       go true true y e f q = let w : pos v ≡ z = cc in far (rw (← w) at h) (omega (arith, leb-true v 2147483647 e))
       go true false y e f q = absurd (let w : _≡_ {A = ℕ} 0 1 = cc in omega arith)
       go false x true e f q = let w : negℤ (pos v) ≡ z = cc in far (rw (size v) at (rw (← w) at h)) (leb-true v 2147483648 f)
