@@ -30,7 +30,8 @@ use Rattle.plain.specs.Plain.{One, no, long, kept, far, part, mapF32, mapAlpha,
 use Rattle.plain.specs.Coded.{kindOf}
 use Rattle.plain.proofs.Numbers.{Small}
 use Rattle.plain.proofs.Every.{find}
-use Rattle.read.proofs.Inside.{tested, trim-end-high, All, all, more, F32In, no-numeral, too-long, a-number, f32-in}
+use Rattle.scan.proofs.Bounds.{tested, trim-end-high}
+use Rattle.read.proofs.Inside.{All, all, more, F32In, no-numeral, too-long, a-number, f32-in}
 use Rattle.read.proofs.Words.{Fits, float-fits, byte-fits, near-fits, cut-fits, round-fits, beat-fits, edge-fits, fad-fits, part-fits, part-full, f32s-in, floats-bounded, ints-small, Near, ints-near, Sound, Ranged, every}
 
 -- what a plain tag gives, its parameter from p to q: a numeral that is too long stands there, what is kept is in range, and where either is not so the text is not plain

@@ -29,7 +29,8 @@ use Rattle.read.proofs.Answer.{good-short}
 use Rattle.read.specs.declared.Span.{Span}
 use Rattle.read.specs.Block.{Got, nothing as none, join, oneGot, Peel, tOf, parse, mostDepth}
 use Rattle.read.specs.Reading.{keptTags, readGround, unlessBad, blockOf, answer, groundPlace}
-use Rattle.read.proofs.Inside.{tested, Between, nowhere, there, between-at, between-wider, between-first, between-none}
+use Rattle.scan.proofs.Bounds.{tested}
+use Rattle.read.proofs.Inside.{Between, nowhere, there, between-at, between-wider, between-first, between-none}
 use Rattle.read.proofs.Fine.{Fine, nothing, late, tag, away, plain-fine}
 use Rattle.read.proofs.Parts.{PeelIn, parse-has, SpanIn}
 

@@ -36,7 +36,8 @@ use Rattle.plain.specs.Coded.{recordOf, kindOf}
 use Rattle.plain.proofs.Numbers.{Small, zero-small}
 use Rattle.plain.proofs.Commas.{ints-read}
 use Rattle.plain.proofs.Every.{Every, gather}
-use Rattle.read.proofs.Inside.{tested, span-ends, not-stops, span-to-high, trim-start-low, trim-end-high, All, all, more, all-map, F32In, no-numeral, too-long, a-number, f32-wider, f32-in}
+use Rattle.scan.proofs.Bounds.{tested, span-to-high, trim-start-low, trim-end-high}
+use Rattle.read.proofs.Inside.{span-ends, not-stops, All, all, more, all-map, F32In, no-numeral, too-long, a-number, f32-wider, f32-in}
 
 -- ---- words
 

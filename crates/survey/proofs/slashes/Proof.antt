@@ -41,9 +41,9 @@ loop-again c =
       search needs,
       ⊎-elim (λ w. omega arith) (λ w. omega arith) (c .if1 .came),
       ⊎-elim
-      (λ w. omega (arith, slashes-one (a .text .now) (l .i) (a .to) t (w .0 .taken)))
-      (λ w. omega (arith, slashes-none (a .text .now) (l .i) (a .to) t (w .0 .left)))
-      (c .if1 .came),
+          (λ w. omega (arith, slashes-one (a .text .now) (l .i) (a .to) t (w .0 .taken)))
+          (λ w. omega (arith, slashes-none (a .text .now) (l .i) (a .to) t (w .0 .left)))
+          (c .if1 .came),
     )
 
 returns : tie.Need-returns Inv-loop μ-loop
