@@ -1,11 +1,5 @@
 // Clip arguments: the scale, and the rest of the caller's own slice.
 ghost use mathlib.Core.Path.{_≡_};
-ghost use mathlib.Core.Bool.{true};
-ghost use Prim.Native.Nat.{_≤_};
-ghost use lib.ListN.{length};
-ghost use Rattle.scan.specs.Scan.{inClass, spanTo, Place};
-ghost use Rattle.scan.specs.Inner.{Passed};
-ghost use Rattle.scan.specs.declared.Class.the-variants.{Not};
 ghost use Rattle.clips.specs.Clip.{atLeastOne, clipParts, clipOf, restOf, ClipIn, Splits};
 
 // A clip argument: a ground that stands against it, the scale, and where the rest of it begins and ends.
@@ -22,39 +16,21 @@ fn at_least_one(n: u32) -> u32
     if n == 0 { 1 } else { n }
 }
 
-// Whether no comma stands between two places: one loop with no exit.
-fn no_comma(text: &[u8], from: usize, to: usize) -> bool
-    requires { ⌜ (from ≤ to) × (to ≤ length (now text)) ⌝ }
-    ensures { λ r. ⌜ (r ≡ true → Passed (inClass (Not 44)) (now (text .entry)) from to to) ⌝ }
-{
-    let mut none = true;
-    let mut i = from;
-    while i < to {
-        if text[i] == 44 {
-            none = false;
-        }
-        i += 1;
-    }
-    none
-}
-
-// The first comma from `from` on, or `to`: mostly there is none.
-fn comma_at(text: &[u8], from: usize, to: usize) -> usize
-    requires { ⌜ (from ≤ to) × (to ≤ length (now text)) ⌝ }
-    ensures { λ r. ⌜ Place from to (spanTo (inClass (Not 44)) (now (text .entry)) from to) r ⌝ }
-{
-    if no_comma(text, from, to) {
-        return to;
-    }
-    scan::span(text, scan::Class::Not(44), from, to)
-}
-
 // The scale before the first comma and the rest behind it, or 1 and all; leading blanks dropped.
 fn clip_parts(text: &[u8]) -> Clip
     ensures { λ r. ⌜ ClipIn (now (text .entry)) (clipParts (now (text .entry))) r ⌝ }
 {
     let a = scan::trim_start(text, 0, text.len());
-    let comma = comma_at(text, a, text.len());
+    // what does not begin with a digit has no scale
+    if scan::past(text, scan::Class::Digit(10), a, text.len()) == a {
+        return Clip {
+            checked: refusal::Checked::Good,
+            scale: 1,
+            from: a,
+            to: text.len(),
+        };
+    }
+    let comma = scan::span(text, scan::Class::Not(44), a, text.len());
     if comma < text.len() {
         let n = numeral::whole_number(text, 10, a, scan::trim_end(text, a, comma));
         if n < 4294967296 {

@@ -18,6 +18,8 @@ use Rattle.numeral.specs.Numeral.{F32, I32, whole, i32At, hexAt}
 use Rattle.numeral.specs.declared.Numeral.{Numeral}
 use Rattle.numeral.specs.declared.Numeral.the-variants.{No, TooLong, Word}
 use Rattle.numeral.proofs.Reach.{Bounded}
+use Rattle.survey.specs.Survey.{Unplain}
+use Rattle.survey.proofs.Long.{Ends}
 use Rattle.colour.specs.Colour.{isAmpersand, trimmed, ampersands, digits, alphaAt, colourAt, cap, rgb}
 use Rattle.tag.specs.Tag as Tag
 use Rattle.tag.specs.Tag.{AnimatedTag, KaraokeKind, Fill, Sweep, Outline, Fad, Fade, Be, Pbo, B, Fn, R, named}
@@ -28,15 +30,16 @@ use Rattle.plain.specs.Plain.{One, no, long, kept, far, part, mapF32, mapAlpha,
 use Rattle.plain.specs.Coded.{kindOf}
 use Rattle.plain.proofs.Numbers.{Small}
 use Rattle.plain.proofs.Every.{find}
-use Rattle.read.proofs.Inside.{tested, trim-end-high, All, all, more, F32In, no-numeral, too-long, a-number, f32-in}
-use Rattle.read.proofs.Words.{Fits, float-fits, byte-fits, near-fits, cut-fits, round-fits, beat-fits, edge-fits, fad-fits, part-fits, part-full, f32s-in, floats-bounded, ints-small, Sound, Ranged, every}
+use Rattle.scan.proofs.Bounds.{tested, trim-end-high}
+use Rattle.read.proofs.Inside.{All, all, more, F32In, no-numeral, too-long, a-number, f32-in}
+use Rattle.read.proofs.Words.{Fits, float-fits, byte-fits, near-fits, cut-fits, round-fits, beat-fits, edge-fits, fad-fits, part-fits, part-full, f32s-in, floats-bounded, ints-small, Near, ints-near, Sound, Ranged, every}
 
--- what a plain tag gives, its parameter from p to q: a numeral that is too long stands there, and what is kept is in range
-pub data Fine (p q : ℕ) : One → Type 0 where
-  nothing : Fine p q no
-  late : (k : ℕ) → p ≤ k → k < q → Fine p q (long k)
-  tag : {x : AnimatedTag} → Sound x → Fine p q (kept x)
-  away : {x : AnimatedTag} → kindOf x < 49 → Fine p q (far x)
+-- what a plain tag gives, its parameter from p to q: a numeral that is too long stands there, what is kept is in range, and where either is not so the text is not plain
+pub data Fine (s : List ℕ) (top p q : ℕ) : One → Type 0 where
+  nothing : Fine s top p q no
+  late : (k : ℕ) → p ≤ k → k < q → Unplain s top p q → Fine s top p q (long k)
+  tag : {x : AnimatedTag} → Sound x → Fine s top p q (kept x)
+  away : {x : AnimatedTag} → kindOf x < 49 → Unplain s top p q → Fine s top p q (far x)
 
 -- a name that goes on behind n letters
 goes-on : (n i m : ℕ) (b : Bool) → pick (leb (suc n) (m - i)) b false ≡ true → i + n < m
@@ -46,15 +49,16 @@ goes-on n i m b h = go (leb (suc n) (m - i)) refl h
     go true e g = omega (arith, leb-true (suc n) (m - i) e)
     go false e g = absurd (true≢false (sym g))
 
-module _ (s : List ℕ) (p q : ℕ) (order : p ≤ q) (short : q ≤ mostBytes) where
+-- the parameter is in a text that ends at top, and is a field there
+module _ (s : List ℕ) (top p q : ℕ) (order : p ≤ q) (short : q ≤ mostBytes) (high : q ≤ top) (ends : Ends s top q) where
   abbrev Good : One → Type 0
-  Good o = Fine p q o
+  Good o = Fine s top p q o
 
   -- ---- one number
 
-  fine-f32 : (f : Float → AnimatedTag) → ((x : Float) → Bounded x → Sound (f x)) → {y : F32} → F32In p q y → Good (mapF32 f y)
+  fine-f32 : (f : Float → AnimatedTag) → ((x : Float) → Bounded x → Sound (f x)) → {y : F32} → F32In s top p q y → Good (mapF32 f y)
   fine-f32 f h no-numeral = nothing
-  fine-f32 f h (too-long k a b) = late k a b
+  fine-f32 f h (too-long k a b u) = late k a b u
   fine-f32 f h (a-number b) = tag (h _ b)
 
   fine-beat : (k : KaraokeKind) (x : Float) → Bounded x → Sound (beatOf k x)
@@ -131,11 +135,11 @@ module _ (s : List ℕ) (p q : ℕ) (order : p ≤ q) (short : q ≤ mostBytes) 
 
   -- ---- a comma list
 
-  fine-long : {o : One} → Good o → {l : List F32} → All (F32In p q) l → Good (firstLong l o)
+  fine-long : {o : One} → Good o → {l : List F32} → All (F32In s top p q) l → Good (firstLong l o)
   unfolding firstLong
   fine-long g all = g
   fine-long g (more no-numeral l) = fine-long g l
-  fine-long g (more (too-long k a b) l) = late k a b
+  fine-long g (more (too-long k a b u) l) = late k a b u
   fine-long g (more (a-number b) l) = fine-long g l
 
   fine-pair : (f : Float → Float → AnimatedTag) → Ranged (pair f) → (l : List Float) → ((n : ℕ) → Bounded (nth l n)) → Good (pairOf f l)
@@ -151,7 +155,7 @@ module _ (s : List ℕ) (p q : ℕ) (order : p ≤ q) (short : q ≤ mostBytes) 
       (tag (rw (float-fits (b 0), float-fits (b 1), float-fits (b 2), float-fits (b 3), cut-fits (b 4), cut-fits (b 5))))
       nothing)
 
-  fine-clip : (f : Float → Float → Float → Float → AnimatedTag) (g : Tag.Part → AnimatedTag) → Ranged (clip f g) → {l : List F32} → All (F32In p q) l → ((n : ℕ) → Bounded (nth (floats l) n)) → Good (clipOf f g l p q)
+  fine-clip : (f : Float → Float → Float → Float → AnimatedTag) (g : Tag.Part → AnimatedTag) → Ranged (clip f g) → {l : List F32} → All (F32In s top p q) l → ((n : ℕ) → Bounded (nth (floats l) n)) → Good (clipOf f g l p q)
   unfolding clipOf
   fine-clip f g h {l} k b =
       let drawing : Good (kept (g (part p q))) = tag (h .1 (part p q) (part-fits p q short)) in
@@ -167,9 +171,9 @@ module _ (s : List ℕ) (p q : ℕ) (order : p ≤ q) (short : q ≤ mostBytes) 
       nothing
 
   -- one far time makes it far; else all four are near
-  fine-fade : (l : List ℤ) → Good (fadeOf l)
+  fine-fade : (l : List ℤ) → ((n : ℕ) → Near s p q (nthInt l n)) → Good (fadeOf l)
   unfolding fadeOf records inRange rows joinFits
-  fine-fade l =
+  fine-fade l near =
       picked Good (leb 7 (length l)) _ _
       (go (isFar (nthInt l 3)) (isFar (nthInt l 4)) (isFar (nthInt l 5)) (isFar (nthInt l 6)) refl refl refl refl)
       nothing
@@ -181,10 +185,10 @@ module _ (s : List ℕ) (p q : ℕ) (order : p ≤ q) (short : q ≤ mostBytes) 
       x = Fade (byteOf (nthInt l 0)) (byteOf (nthInt l 1)) (byteOf (nthInt l 2)) (nthInt l 3) (nthInt l 4) (nthInt l 5) (nthInt l 6)
 
       go : (a b c d : Bool) → isFar (nthInt l 3) ≡ a → isFar (nthInt l 4) ≡ b → isFar (nthInt l 5) ≡ c → isFar (nthInt l 6) ≡ d → Good (pick (pick a true (pick b true (pick c true d))) (far x) (kept x))
-      go true b c d e f g h = away (lit< tt)
-      go false true c d e f g h = away (lit< tt)
-      go false false true d e f g h = away (lit< tt)
-      go false false false true e f g h = away (lit< tt)
+      go true b c d e f g h = away (lit< tt) (near 3 e top)
+      go false true c d e f g h = away (lit< tt) (near 4 f top)
+      go false false true d e f g h = away (lit< tt) (near 5 g top)
+      go false false false true e f g h = away (lit< tt) (near 6 h top)
       go false false false false e f g h =
           tag {x = x} (rw (least (nthInt l 0), least (nthInt l 1), least (nthInt l 2), near-fits (nthInt l 3) e, near-fits (nthInt l 4) f, near-fits (nthInt l 5) g, near-fits (nthInt l 6) h))
 
@@ -217,19 +221,19 @@ module _ (s : List ℕ) (p q : ℕ) (order : p ≤ q) (short : q ≤ mostBytes) 
 
   fine-shape : (x : Shape) → Ranged x → Good (shaped x s p q)
   unfolding shaped
-  fine-shape (float f) h = fine-f32 f (λ x b. h x (float-fits b)) (f32-in s p q)
-  fine-shape (pair f) h = fine-long (fine-pair f h _ (floats-bounded s p q)) (f32s-in s p q order)
+  fine-shape (float f) h = fine-f32 f (λ x b. h x (float-fits b)) (f32-in s top p q high ends)
+  fine-shape (pair f) h = fine-long (fine-pair f h _ (floats-bounded s p q)) (f32s-in s top p q order high ends)
   fine-shape (ranged a b f) h = fine-ranged a b f h (i32At s p q)
   fine-shape (flag f) h = fine-flag f h
   fine-shape (alpha f) h = fine-alpha f h
   fine-shape (colour f) h = fine-colour f h
-  fine-shape (clip f g) h = fine-clip f g h (f32s-in s p q order) (floats-bounded s p q)
-  fine-shape (beat k) h = fine-f32 (beatOf k) (fine-beat k) (f32-in s p q)
+  fine-shape (clip f g) h = fine-clip f g h (f32s-in s top p q order high ends) (floats-bounded s p q)
+  fine-shape (beat k) h = fine-f32 (beatOf k) (fine-beat k) (f32-in s top p q high ends)
   fine-shape fad h = fine-fad _ (ints-small s p q)
-  fine-shape fade h = fine-fade _
-  fine-shape move h = fine-long (fine-move _ (floats-bounded s p q)) (f32s-in s p q order)
-  fine-shape edge h = fine-f32 (λ x. Be (roundByte x)) fine-edge (f32-in s p q)
-  fine-shape baseline h = fine-f32 (λ x. Pbo (roundAway x)) fine-baseline (f32-in s p q)
+  fine-shape fade h = fine-fade _ (λ n. ints-near s p q n order)
+  fine-shape move h = fine-long (fine-move _ (floats-bounded s p q)) (f32s-in s top p q order high ends)
+  fine-shape edge h = fine-f32 (λ x. Be (roundByte x)) fine-edge (f32-in s top p q high ends)
+  fine-shape baseline h = fine-f32 (λ x. Pbo (roundAway x)) fine-baseline (f32-in s top p q high ends)
   fine-shape weight h = fine-weight (i32At s p q)
   fine-shape reset h = fine-reset
   fine-shape unknown h = nothing

@@ -1,100 +1,61 @@
--- What a scan of the text from i to e gives lies between i and e.
+-- Numerals that are too long, and where they stand.
 use mathlib.Core.Path.{_≡_, refl, sym}
 use mathlib.Core.List.{List, [], _∷_, _++_}
-use mathlib.Core.Bool.{Bool, true, false}
-use mathlib.Core.Logic.{⊎-elim}
+use mathlib.Core.Bool.{Bool, true, false, not, true≢false}
+use mathlib.Core.Logic.{_⊎_, inl, inr, ⊎-elim}
 use Prim.Native.Nat.{ℕ, zero, suc, _+_, _-_, _≤_, _<_}
 use native.Mathlib.Omega.{arith}
-use native.Mathlib.Nat.{le-refl}
+use native.Mathlib.Nat.{le-refl, le-trans}
 use lib.Ieee.{Float}
 use lib.ListN.{getD}
 use lib.Dec.{ltb, leb, eqb}
 use borrow.Author.Tests.{le-ltb, ltb-true, ltb-false}
-use Rattle.scan.specs.Scan.{pick, blankAt, blankBefore, spanTo, past, skip, skipBack, trimStart, trimEnd}
+use Rattle.scan.specs.Scan.{pick, inClass, isBlank, blankAt, blankBefore, span, spanTo, past, skip, skipBack, trimStart, trimEnd}
+use Rattle.scan.specs.declared.Class.the-variants.{Not}
 use Rattle.scan.proofs.Laws.{picked, le-or-lt, span-end, span-high, skip-low, blank-at-fits, blank-before-fits}
+use Rattle.scan.proofs.Bounds.{tested, trim-start-low, trim-end-high}
 use Rattle.numeral.specs.Numeral.{F32, number, tooLong, f32At, f32Of, splitAt, exponentAt, isDigit}
 use Rattle.numeral.specs.declared.Decimal.{Decimal}
 use Rattle.numeral.proofs.Laws.{f32-empty}
 use Rattle.numeral.proofs.Reach.{Bounded, number-in-reach}
+use Rattle.survey.specs.Survey.{Unplain, isStop}
+use Rattle.survey.proofs.Laws.{unplain-wider}
+use Rattle.survey.proofs.Long.{Ends, blank-stops, byte-stops, long-unplain}
 use Rattle.lists.specs.Lists.{firstOf}
 use Rattle.lists.specs.declared.Found.{Found}
 use Rattle.lists.specs.declared.Found.the-variants.{Nowhere, At}
 
--- ---- scans
-
--- a test's two branches, each with what the test says
-pub tested : {A : Type 0} (P : A → Type 0) (i e : ℕ) {x y : A} → (i < e → P x) → (e ≤ i → P y) → P (pick (ltb i e) x y)
-tested P i e {x} {y} f g = go (ltb i e) refl
-  where
-    go : (b : Bool) → ltb i e ≡ b → P (pick b x y)
-    go true t = f (ltb-true i e t)
-    go false t = g (ltb-false i e t)
-
-pub span-to-high : (p : ℕ → Bool) (s : List ℕ) (i e : ℕ) → i ≤ e → spanTo p s i e ≤ e
-span-to-high p s i e h = omega (arith, span-high p s (e - i) i)
-
-pub past-high : (p : ℕ → Bool) (s : List ℕ) (i e : ℕ) → i ≤ e → past p s i e ≤ e
-past-high p s i e h = tested (λ (j : ℕ). j ≤ e) i e (λ (l : i < e). picked (λ (j : ℕ). j ≤ e) (p (getD s i 0)) _ _ (omega arith) h) (λ (l : e ≤ i). h)
-
-skip-high : (s : List ℕ) (e n i : ℕ) → i ≤ e → skip blankAt s e n i ≤ e
-unfolding skip
-skip-high s e zero i h = h
-skip-high s e (suc n) i h =
-    let f = blank-at-fits s i e in
-    picked (λ (j : ℕ). j ≤ e) (eqb (blankAt s i e) 0) _ _ h (skip-high s e n (i + blankAt s i e) (omega arith))
-
-pub trim-start-low : (s : List ℕ) (i e : ℕ) → i ≤ trimStart s i e
-trim-start-low s i e = skip-low _ blank-at-fits s e (e - i) i
-
-pub trim-start-high : (s : List ℕ) (i e : ℕ) → i ≤ e → trimStart s i e ≤ e
-trim-start-high s i e h = skip-high s e (e - i) i h
-
-skip-back-high : (s : List ℕ) (i n e : ℕ) → skipBack s i n e ≤ e
-unfolding skipBack
-skip-back-high s i zero e = le-refl e
-skip-back-high s i (suc n) e =
-    let h : skipBack s i n (e - blankBefore s i e) ≤ e - blankBefore s i e = skip-back-high s i n (e - blankBefore s i e) in
-    picked (λ (j : ℕ). j ≤ e) (eqb (blankBefore s i e) 0) _ _ (le-refl e) (omega arith)
-
-pub trim-end-high : (s : List ℕ) (i e : ℕ) → trimEnd s i e ≤ e
-trim-end-high s i e = skip-back-high s i (e - i) e
-
-skip-back-low : (s : List ℕ) (i n e : ℕ) → i ≤ e → i ≤ skipBack s i n e
-unfolding skipBack
-skip-back-low s i zero e h = h
-skip-back-low s i (suc n) e h =
-    let f = blank-before-fits s i e in
-    picked (λ (j : ℕ). i ≤ j) (eqb (blankBefore s i e) 0) _ _ h (skip-back-low s i n (e - blankBefore s i e) (omega arith))
-
-pub trim-end-low : (s : List ℕ) (i e : ℕ) → i ≤ e → i ≤ trimEnd s i e
-trim-end-low s i e h = skip-back-low s i (e - i) e h
-
 -- ---- numerals
 
--- a place, if there is one, from i on and before e
-pub data Between (i e : ℕ) : Found → Type 0 where
-  nowhere : Between i e Nowhere
-  there : (p : ℕ) → i ≤ p → p < e → Between i e (At p)
+-- a place, if there is one, from i on and before e, where the text is not plain
+pub data Between (s : List ℕ) (top i e : ℕ) : Found → Type 0 where
+  nowhere : Between s top i e Nowhere
+  there : (p : ℕ) → i ≤ p → p < e → Unplain s top i e → Between s top i e (At p)
 
-pub between-at : {i e : ℕ} {f : Found} → Between i e f → (p : ℕ) → f ≡ At p → (i ≤ p) × (p < e)
+pub between-at : {s : List ℕ} {top i e : ℕ} {f : Found} → Between s top i e f → (p : ℕ) → f ≡ At p → (i ≤ p) × (p < e)
 between-at nowhere p q = absurd (let z : _≡_ {A = ℕ} 0 1 = cc in omega arith)
-between-at (there k l h) p q =
+between-at (there k l h u) p q =
     let z : k ≡ p = cc in
     (omega arith, omega arith)
 
-pub between-wider : {i j k e : ℕ} {f : Found} → i ≤ j → k ≤ e → Between j k f → Between i e f
+pub between-wider : {s : List ℕ} {top i j k e : ℕ} {f : Found} → i ≤ j → k ≤ e → Between s top j k f → Between s top i e f
 between-wider a b nowhere = nowhere
-between-wider a b (there p l h) = there p (omega arith) (omega arith)
+between-wider a b (there p l h u) = there p (omega arith) (omega arith) (unplain-wider a b u)
 
-pub between-first : {i e : ℕ} {f g : Found} → Between i e f → Between i e g → Between i e (firstOf f g)
+pub between-first : {s : List ℕ} {top i e : ℕ} {f g : Found} → Between s top i e f → Between s top i e g → Between s top i e (firstOf f g)
 between-first nowhere b = b
-between-first (there p l h) b = there p l h
+between-first (there p l h u) b = there p l h u
 
--- an f32 is in reach, and a numeral that is too long stands in the text from p to q
-pub data F32In (p q : ℕ) : F32 → Type 0 where
-  no-numeral : F32In p q F32.none
-  too-long : (k : ℕ) → p ≤ k → k < q → F32In p q (tooLong k)
-  a-number : {x : Float} → Bounded x → F32In p q (number x)
+-- in a plain text there is none
+pub between-none : {s : List ℕ} {top i e : ℕ} {f : Found} → (Unplain s top i e → ⊥) → Between s top i e f → f ≡ Nowhere
+between-none h nowhere = refl
+between-none h (there p l k u) = absurd (h u)
+
+-- an f32 is in reach, and a numeral that is too long stands in the text from p to q, which is not plain
+pub data F32In (s : List ℕ) (top p q : ℕ) : F32 → Type 0 where
+  no-numeral : F32In s top p q F32.none
+  too-long : (k : ℕ) → p ≤ k → k < q → Unplain s top p q → F32In s top p q (tooLong k)
+  a-number : {x : Float} → Bounded x → F32In s top p q (number x)
 
 module _ (s : List ℕ) (a b : ℕ) where
   abbrev d : Decimal
@@ -120,27 +81,66 @@ module _ (s : List ℕ) (a b : ℕ) where
       let d : splitAt s a b ≡ record { from = a; whole = a; fraction = a; end = a } = simp (le-ltb a b h, span-end isDigit s a b h) in
       sym (f32-empty s a b (record { from = a; whole = a; fraction = a; end = a }) (sym d) (omega arith))
 
-  f32-of-in : F32In a b (f32Of s a b)
-  f32-of-in = go (f32Of s a b) refl at-front
+  f32-of-in : (top : ℕ) → b ≤ top → Ends s top b → F32In s top a b (f32Of s a b)
+  f32-of-in top high ends = go (f32Of s a b) refl at-front
     where
-      go : (x : F32) → f32Of s a b ≡ x → AtFront x → F32In a b x
+      go : (x : F32) → f32Of s a b ≡ x → AtFront x → F32In s top a b x
       go F32.none e f = no-numeral
       go (tooLong k) e f =
           ⊎-elim
           (λ (h : b ≤ a). absurd (let z : _≡_ {A = ℕ} 0 1 = cc (f32-nowhere h) in omega arith))
-          (λ (h : a < b). too-long k (omega arith) (omega arith))
+          (λ (h : a < b). too-long k (omega arith) (omega arith) (long-unplain s top a b high ends k e))
           (le-or-lt b a)
       go (number x) e f = a-number (number-in-reach s a b x e)
 
-pub f32-wider : {p a b q : ℕ} {x : F32} → p ≤ a → b ≤ q → F32In a b x → F32In p q x
+pub f32-wider : {s : List ℕ} {top p a b q : ℕ} {x : F32} → p ≤ a → b ≤ q → F32In s top a b x → F32In s top p q x
 f32-wider l h no-numeral = no-numeral
-f32-wider l h (too-long k m n) = too-long k (omega arith) (omega arith)
+f32-wider l h (too-long k m n u) = too-long k (omega arith) (omega arith) (unplain-wider l h u)
 f32-wider l h (a-number b) = a-number b
 
-pub f32-in : (s : List ℕ) (p q : ℕ) → F32In p q (f32At s p q)
-f32-in s p q =
+-- what is trimmed from the end begins with a blank
+skip-back-blank : (s : List ℕ) (i n e : ℕ) → (skipBack s i n e ≡ e) ⊎ (isBlank (getD s (skipBack s i n e) 0) ≡ true)
+unfolding skipBack blankBefore
+skip-back-blank s i zero e = inl refl
+skip-back-blank s i (suc n) e = tested (λ (w : ℕ). Trimmed (pick (eqb w 0) e (skipBack s i n (e - w)))) i e (λ (l : i < e). blank (isBlank (getD s (e - 1) 0)) refl (skip-back-blank s i n (e - 1))) (λ (l : e ≤ i). inl refl)
+  where
+    Trimmed : ℕ → Type 0
+    Trimmed r = (r ≡ e) ⊎ (isBlank (getD s r 0) ≡ true)
+
+    blank : (t : Bool) → isBlank (getD s (e - 1) 0) ≡ t → (skipBack s i n (e - 1) ≡ e - 1) ⊎ (isBlank (getD s (skipBack s i n (e - 1)) 0) ≡ true) → Trimmed (pick (eqb (pick t 1 0) 0) e (skipBack s i n (e - pick t 1 0)))
+    blank true q f = ⊎-elim (λ (z : skipBack s i n (e - 1) ≡ e - 1). inr (rw z q)) (λ (z : isBlank (getD s (skipBack s i n (e - 1)) 0) ≡ true). inr z) f
+    blank false q f = inl refl
+
+trim-ends : (s : List ℕ) (top i q : ℕ) → Ends s top q → Ends s top (trimEnd s i q)
+trim-ends s top i q f = ⊎-elim (λ (z : trimEnd s i q ≡ q). rw z f) (λ (z : isBlank (getD s (trimEnd s i q) 0) ≡ true). inr (blank-stops _ z)) (skip-back-blank s i (q - i) q)
+
+pub f32-in : (s : List ℕ) (top p q : ℕ) → q ≤ top → Ends s top q → F32In s top p q (f32At s p q)
+f32-in s top p q h f =
     let a = trimStart s p q in
-    f32-wider (trim-start-low s p q) (trim-end-high s a q) (f32-of-in s a (trimEnd s a q))
+    f32-wider (trim-start-low s p q) (trim-end-high s a q) (f32-of-in s a (trimEnd s a q) top (le-trans (trim-end-high s a q) h) (trim-ends s top a q f))
+
+-- a scan stops at a byte that is not of the class, or at the end
+span-stops : (p : ℕ → Bool) (s : List ℕ) (n i : ℕ) → (span p s n i ≡ i + n) ⊎ (p (getD s (span p s n i) 0) ≡ false)
+unfolding span
+span-stops p s zero i = inl (omega arith)
+span-stops p s (suc n) i = go (p (getD s i 0)) refl (span-stops p s n (i + 1))
+  where
+    go : (t : Bool) → p (getD s i 0) ≡ t → (span p s n (i + 1) ≡ i + 1 + n) ⊎ (p (getD s (span p s n (i + 1)) 0) ≡ false) → (pick t (span p s n (i + 1)) i ≡ i + suc n) ⊎ (p (getD s (pick t (span p s n (i + 1)) i) 0) ≡ false)
+    go true e f = ⊎-elim (λ (z : span p s n (i + 1) ≡ i + 1 + n). inl (omega arith)) (λ z. inr z) f
+    go false e f = inr e
+
+-- where it stops a field ends
+pub span-ends : (p : ℕ → Bool) (s : List ℕ) (top i e : ℕ) → ((b : ℕ) → p b ≡ false → isStop b ≡ true) → i ≤ e → Ends s top e → Ends s top (spanTo p s i e)
+span-ends p s top i e g h f =
+    let z : i + (e - i) ≡ e = omega arith in
+    ⊎-elim (λ (k : spanTo p s i e ≡ i + (e - i)). rw (k, z) f) (λ (k : p (getD s (spanTo p s i e) 0) ≡ false). inr (g _ k)) (span-stops p s (e - i) i)
+
+pub not-stops : (c : ℕ) → isStop c ≡ true → (b : ℕ) → inClass (Not c) b ≡ false → isStop b ≡ true
+not-stops c f b e = go (eqb b c) refl e
+  where
+    go : (t : Bool) → eqb b c ≡ t → not t ≡ false → isStop b ≡ true
+    go true q r = byte-stops b c q f
+    go false q r = absurd (true≢false r)
 
 -- all of a list
 pub data All {A : Type 0} (P : A → Type 0) : List A → Type 0 where

@@ -1,16 +1,21 @@
 -- Every place and count that an answer names lies within the text.
-use mathlib.Core.Path.{_≡_}
+use mathlib.Core.Path.{_≡_, refl}
 use mathlib.Core.List.{List, []}
+use mathlib.Core.Logic.{inl}
 use Prim.Native.Nat.{ℕ, _+_, _-_, _≤_, _<_, min}
 use native.Mathlib.Omega.{arith}
 use native.Mathlib.Nat.{le-refl, le-trans}
 use lib.Dec.{leb}
-use lib.ListN.{length, length-append}
+use lib.ListN.{length, getD, length-append}
 use Rattle.scan.specs.Scan.{inClass, spanTo}
 use Rattle.scan.specs.declared.Class.the-variants.{Below}
 use Rattle.scan.proofs.Laws.{picked}
 use Rattle.refusal.specs.Refusal.{mostBytes, mostPlaces, textGround}
 use Rattle.refusal.specs.declared.Checked.{Checked}
+use Rattle.refusal.specs.declared.Checked.the-variants.{Good}
+use borrow.Author.Tests.{le-leb}
+use Rattle.survey.specs.Survey.{slashesTo, Straight}
+use Rattle.survey.proofs.Laws.{unplain-wider, slashes-one, slashes-split, slashes-inside, slashes-most}
 use Rattle.lists.specs.declared.Found.{Found}
 use Rattle.lists.specs.declared.Found.the-variants.{At}
 use Rattle.tag.specs.Table.{encode}
@@ -19,55 +24,59 @@ use Rattle.plain.specs.Plain.{One}
 use Rattle.plain.proofs.Gives.{Single}
 use Rattle.plain.proofs.Bridge.{plain-single}
 use Rattle.read.specs.declared.Reading.{Reading}
+use Rattle.read.specs.declared.Reading.the-variants.{Read}
+use Rattle.read.proofs.Answer.{good-short}
 use Rattle.read.specs.declared.Span.{Span}
 use Rattle.read.specs.Block.{Got, nothing as none, join, oneGot, Peel, tOf, parse, mostDepth}
 use Rattle.read.specs.Reading.{keptTags, readGround, unlessBad, blockOf, answer, groundPlace}
-use Rattle.read.proofs.Inside.{tested, Between, nowhere, there, between-at, between-wider, between-first}
+use Rattle.scan.proofs.Bounds.{tested}
+use Rattle.read.proofs.Inside.{Between, nowhere, there, between-at, between-wider, between-first, between-none}
 use Rattle.read.proofs.Fine.{Fine, nothing, late, tag, away, plain-fine}
 use Rattle.read.proofs.Parts.{PeelIn, parse-has, SpanIn}
 
 -- 01, Grounds: the place of ground 3 and of ground 4 is in the text from i to e, and it gives no more tags than it has bytes
-pub record Placed (i e : ℕ) (g : Got) : Type 0 where
-  pub long : Between i e (g .long)
-  pub far : Between i e (g .far)
-  pub few : keptTags g ≤ e - i
+pub record Placed (s : List ℕ) (top i e : ℕ) (g : Got) : Type 0 where
+  pub long : Between s top i e (g .long)
+  pub far : Between s top i e (g .far)
+  pub few : keptTags g ≤ slashesTo s i e
 
-none-placed : (i e : ℕ) → Placed i e none
+none-placed : (s : List ℕ) (top i e : ℕ) → Placed s top i e none
 unfolding encode
-none-placed i e = record { long = nowhere; far = nowhere; few = omega arith }
+none-placed s top i e = record { long = nowhere; far = nowhere; few = omega arith }
 
-join-placed : {i k e : ℕ} (g h : Got) → i ≤ k → k ≤ e → Placed i k g → Placed k e h → Placed i e (join g h)
-join-placed {i} {k} {e} g h a b u v =
+join-placed : {s : List ℕ} {top i k e : ℕ} (g h : Got) → i ≤ k → k ≤ e → Placed s top i k g → Placed s top k e h → Placed s top i e (join g h)
+join-placed {s} {top} {i} {k} {e} g h a b u v =
     record {
       long = between-first (between-wider (le-refl i) b (u .long)) (between-wider a (le-refl e) (v .long));
       far = between-first (between-wider (le-refl i) b (u .far)) (between-wider a (le-refl e) (v .far));
-      few = rw (encode-append (g .tags) (h .tags), length-append (encode (g .tags)) (encode (h .tags))) (omega (arith, u .few, v .few));
+      few = rw (encode-append (g .tags) (h .tags), length-append (encode (g .tags)) (encode (h .tags))) (omega (arith, u .few, v .few, slashes-split s i k e a b));
     }
 
-one-placed : {i p q e : ℕ} {o : One} → i < p → p ≤ q → q ≤ e → Fine p q o → Single o → Placed i e (oneGot i o)
+one-placed : {s : List ℕ} {top i p q e : ℕ} {o : One} → getD s i 0 ≡ 92 → i < p → p ≤ q → q ≤ e → Fine s top p q o → Single o → Placed s top i e (oneGot i o)
 unfolding encode
-one-placed a b c nothing u = record { long = nowhere; far = nowhere; few = omega arith }
-one-placed a b c (late k l h) u = record { long = there k (omega arith) (omega arith); far = nowhere; few = omega arith }
-one-placed a b c (tag h) u = record { long = nowhere; far = nowhere; few = rw u (omega arith) }
-one-placed {i} a b c (away h) u = record { long = nowhere; far = there i (le-refl i) (omega arith); few = rw u (omega arith) }
+one-placed z a b c nothing u = record { long = nowhere; far = nowhere; few = omega arith }
+one-placed z a b c (late k l h v) u = record { long = there k (omega arith) (omega arith) (unplain-wider (omega arith) c v); far = nowhere; few = omega arith }
+one-placed {s} {top} {i} {p} {q} {e} z a b c (tag h) u = record { long = nowhere; far = nowhere; few = rw u (omega (arith, slashes-one s i e (omega arith) z)) }
+one-placed {s} {top} {i} {p} {q} {e} z a b c (away h v) u = record { long = nowhere; far = there i (le-refl i) (omega arith) (unplain-wider (omega arith) c v); few = rw u (omega (arith, slashes-one s i e (omega arith) z)) }
 
-t-placed : {i p q e : ℕ} (l : Peel) (g : Got) → i < p → q ≤ e → PeelIn p q l → Placed (l .rest) q g → Placed i e (tOf l g)
+t-placed : {s : List ℕ} {top i p q e : ℕ} (l : Peel) (g : Got) → getD s i 0 ≡ 92 → i < p → q ≤ e → PeelIn s top p q l → Placed s top (l .rest) q g → Placed s top i e (tOf l g)
 unfolding encode
-t-placed l g a b u v =
+t-placed {s} {top} {i} {p} {q} {e} l g z a b u v =
     record {
       long = between-first (between-wider (omega arith) b (u .long)) (between-wider (omega (arith, u .low)) b (v .long));
       far = between-wider (omega (arith, u .low)) b (v .far);
-      few = rw (length-append (encode (g .tags)) []) (omega (arith, u .low, u .high, v .few));
+      few = rw (length-append (encode (g .tags)) []) (omega (arith, v .few, slashes-one s i e (omega (arith, u .low, u .high)) z, slashes-inside s (i + 1) (l .rest) q e (omega (arith, u .low)) (u .high) b));
     }
 
-pub placed : (d : ℕ) (s : List ℕ) (i e : ℕ) → i ≤ e → e ≤ mostBytes → Placed i e (parse d s i e)
+pub placed : (d : ℕ) (s : List ℕ) (i e : ℕ) → i ≤ e → e ≤ mostBytes → Placed s e i e (parse d s i e)
 placed d s i e =
-    parse-has s (λ d i e g. e ≤ mostBytes → Placed i e g)
-    (λ d i e l h. none-placed i e)
+    let top = e in
+    λ h. parse-has s top (λ d i e g. e ≤ mostBytes → Placed s top i e g)
+    (λ d i e l h. none-placed s top i e)
     (λ d i k e g h a b u v l. join-placed g h a b (u (le-trans b l)) (v l))
-    (λ d i m p q e a b c l h. one-placed (omega arith) c l (plain-fine s p q c (le-trans l h) (i + 1) m (omega arith)) (plain-single s (i + 1) m p q))
-    (λ d i p q e l g a b u v h. t-placed l g a b u (v (le-trans b h)))
-    d i e
+    (λ d i m p q e z a b c l m₁ n₁ h. one-placed z (omega arith) c l (plain-fine s top p q c (le-trans l h) m₁ n₁ (i + 1) m (omega arith)) (plain-single s (i + 1) m p q))
+    (λ d i p q e l g z a b u v h. t-placed l g z a b u (v (le-trans b h)))
+    d i e h (le-refl e) (inl refl)
 
 module _ (d : ℕ) (s : List ℕ) (i e : ℕ) (order : i ≤ e) (short : e ≤ mostBytes) where
   -- ground 3: the first byte of a numeral
@@ -80,14 +89,23 @@ module _ (d : ℕ) (s : List ℕ) (i e : ℕ) (order : i ≤ e) (short : e ≤ m
 
   -- ground 9: the number of records
   pub few-tags : keptTags (parse d s i e) ≤ e - i
-  few-tags = placed d s i e order short .few
+  few-tags = le-trans (placed d s i e order short .few) (slashes-most s i e)
+
+-- ---- a plain text
+
+-- where a first look finds nothing, all kept tags are read: grounds 3, 4 and 9 cannot stand
+pub straight-read : (s : List ℕ) (x : Span) (places : ℕ) → SpanIn s x → textGround s ≡ Good → Straight s (x .from) (x .to) (min places mostPlaces) → answer s x places ≡ Read (keptTags (blockOf s x))
+unfolding answer readGround
+straight-read s x places inside good f =
+    let r = placed mostDepth s (x .from) (x .to) (inside .order) (le-trans (inside .high) (good-short s good)) in
+    rw (good, between-none (f .plain) (r .long), between-none (f .plain) (r .far), le-leb (keptTags (blockOf s x)) (min places mostPlaces) (le-trans (r .few) (f .few)))
 
 -- ---- an answer
 
-ground-placed : {i e n : ℕ} {f g : Found} (places : ℕ) → Between i e f → Between i e g → n ≤ e - i → groundPlace (readGround f g n places) ≤ e
+ground-placed : {s : List ℕ} {top i e n : ℕ} {f g : Found} (places : ℕ) → Between s top i e f → Between s top i e g → n ≤ e - i → groundPlace (readGround f g n places) ≤ e
 unfolding readGround
-ground-placed places (there p a b) v h = omega arith
-ground-placed places nowhere (there p a b) h = omega arith
+ground-placed places (there p a b u) v h = omega arith
+ground-placed places nowhere (there p a b u) h = omega arith
 ground-placed {e = e} {n = n} places nowhere nowhere h = picked (λ (r : Reading). groundPlace r ≤ e) (leb n (min places mostPlaces)) _ _ (omega arith) (omega arith)
 
 -- x is the part of the text that a call reads
@@ -101,7 +119,7 @@ module _ (s : List ℕ) (x : Span) (places : ℕ) (inside : SpanIn s x) where
   read-within : length s ≤ mostBytes → Within read
   read-within l =
       let r = placed mostDepth s (x .from) (x .to) (inside .order) (le-trans (inside .high) l) in
-      let m = ground-placed places (r .long) (r .far) (r .few) in
+      let m = ground-placed places (r .long) (r .far) (le-trans (r .few) (slashes-most s (x .from) (x .to))) in
       (le-trans m (inside .high), le-trans m (le-trans (inside .high) l))
 
   -- 01, Grounds: "Each gives its number and the stated place or count (else 0)": that is no more than the text has bytes, and no more than 12,288

@@ -2,9 +2,10 @@
 use mathlib.Core.Path.{_≡_, refl}
 use mathlib.Core.List.{List, [], _∷_, _++_}
 use mathlib.Core.Bool.{Bool, true, false}
+use mathlib.Core.Logic.{inl}
 use Prim.Native.Nat.{ℕ, suc, _+_, _≤_, _<_, min}
 use native.Mathlib.Omega.{arith}
-use native.Mathlib.Nat.{le-trans}
+use native.Mathlib.Nat.{le-refl, le-trans}
 use lib.Dec.{leb}
 use lib.Ieee.{Float, ofBits, toBits}
 use lib.ListN.{length}
@@ -54,12 +55,12 @@ t-in-range (more a all) n = rw (float-fits a)
 t-in-range (more a (more b all)) n = rw (cut-fits a, cut-fits b, one-fits)
 t-in-range (more a (more b (more c l))) n = rw (cut-fits a, cut-fits b, float-fits c)
 
-one-in-range : {p q : ℕ} {o : One} (i : ℕ) → Fine p q o → Single o → oneGot i o .far ≡ Nowhere → All InRange (encode (oneGot i o .tags))
+one-in-range : {s : List ℕ} {top p q : ℕ} {o : One} (i : ℕ) → Fine s top p q o → Single o → oneGot i o .far ≡ Nowhere → All InRange (encode (oneGot i o .tags))
 unfolding encode
 one-in-range i nothing u f = all
-one-in-range i (late k a b) u f = all
+one-in-range i (late k a b v) u f = all
 one-in-range i (tag {x = x} h) u f = rw u (more (sound-tag x h .1) all)
-one-in-range i (away h) u f = absurd (let z : _≡_ {A = ℕ} 0 1 = cc in omega arith)
+one-in-range i (away h v) u f = absurd (let z : _≡_ {A = ℕ} 0 1 = cc in omega arith)
 
 first-nowhere : (a b : Found) → firstOf a b ≡ Nowhere → (a ≡ Nowhere) × (b ≡ Nowhere)
 first-nowhere Nowhere b e = (refl, e)
@@ -69,14 +70,15 @@ first-nowhere (At p) b e = absurd (let z : _≡_ {A = ℕ} 0 1 = cc in omega ari
 pub in-range : (d : ℕ) (s : List ℕ) (i e : ℕ) → i ≤ e → e ≤ mostBytes → parse d s i e .far ≡ Nowhere → All InRange (encode (parse d s i e .tags))
 unfolding encode
 in-range d s i e =
-    parse-has s (λ d i e g. e ≤ mostBytes → g .far ≡ Nowhere → All InRange (encode (g .tags)))
+    let top = e in
+    λ h. parse-has s top (λ d i e g. e ≤ mostBytes → g .far ≡ Nowhere → All InRange (encode (g .tags)))
     (λ d i e l h f. all)
     (λ d i k e g h a b u v l f.
     let w = first-nowhere (g .far) (h .far) f in
     rw (encode-append (g .tags) (h .tags)) (all-append (u (le-trans b l) (w .0)) (v l (w .1))))
-    (λ d i m p q e a b c l h f. one-in-range i (plain-fine s p q c (le-trans l h) (i + 1) m (omega arith)) (plain-single s (i + 1) m p q) f)
-    (λ d i p q e l g a b u v h f. more (t-in-range (u .heads) (length (encode (g .tags)))) (all-append (v (le-trans b h) f) all))
-    d i e
+    (λ d i m p q e z a b c l m₁ n₁ h f. one-in-range i (plain-fine s top p q c (le-trans l h) m₁ n₁ (i + 1) m (omega arith)) (plain-single s (i + 1) m p q) f)
+    (λ d i p q e l g z a b u v h f. more (t-in-range (u .heads) (length (encode (g .tags)))) (all-append (v (le-trans b h) f) all))
+    d i e h (le-refl e) (inl refl)
 
 -- ---- every T around its own records
 
@@ -97,20 +99,21 @@ deep-append empty k = k
 deep-append (single u h n) k = single u h (deep-append n k)
 deep-append (nest n m) k = nest n (deep-append m k)
 
-one-deep : {p q : ℕ} {o : One} (d i : ℕ) → Fine p q o → Single o → Deep d (oneGot i o .tags)
+one-deep : {s : List ℕ} {top p q : ℕ} {o : One} (d i : ℕ) → Fine s top p q o → Single o → Deep d (oneGot i o .tags)
 one-deep d i nothing u = empty
-one-deep d i (late k a b) u = empty
+one-deep d i (late k a b v) u = empty
 one-deep d i (tag {x = x} h) u = single u (sound-tag x h .0) empty
-one-deep d i (away h) u = single u h empty
+one-deep d i (away h v) u = single u h empty
 
 pub deep : (d : ℕ) (s : List ℕ) (i e : ℕ) → i ≤ e → e ≤ mostBytes → Deep d (parse d s i e .tags)
 deep d s i e =
-    parse-has s (λ d i e g. e ≤ mostBytes → Deep d (g .tags))
+    let top = e in
+    λ h. parse-has s top (λ d i e g. e ≤ mostBytes → Deep d (g .tags))
     (λ d i e l h. empty)
     (λ d i k e g h a b u v l. deep-append (u (le-trans b l)) (v l))
-    (λ d i m p q e a b c l h. one-deep d i (plain-fine s p q c (le-trans l h) (i + 1) m (omega arith)) (plain-single s (i + 1) m p q))
-    (λ d i p q e l g a b u v h. nest (v (le-trans b h)) empty)
-    d i e
+    (λ d i m p q e z a b c l m₁ n₁ h. one-deep d i (plain-fine s top p q c (le-trans l h) m₁ n₁ (i + 1) m (omega arith)) (plain-single s (i + 1) m p q))
+    (λ d i p q e l g z a b u v h. nest (v (le-trans b h)) empty)
+    d i e h (le-refl e) (inl refl)
 
 -- 01, A table record: "every T's contents end inside what encloses it", "T nested at most eight deep", here d.
 -- Behind a T come the records inside it, as many as its word says, with one level less, then those that are not.

@@ -2,23 +2,27 @@
 use mathlib.Core.Path.{_≡_, refl, sym}
 use mathlib.Core.List.{List, [], _∷_}
 use mathlib.Core.Bool.{Bool, true, false, true≢false}
+use mathlib.Core.Logic.{inl}
 use Prim.Native.Nat.{ℕ, zero, suc, _+_, _-_, _≤_, _<_, min}
 use native.Mathlib.Omega.{arith}
-use native.Mathlib.Nat.{le-refl}
+use native.Mathlib.Nat.{le-refl, le-trans}
 use lib.Dec.{T, ltb, lit<}
 use lib.IntN.{ℤ, pos, negsuc, natAbs}
 use lib.Signed.{nonNeg}
 use lib.Ieee.{Float, nan, inf, fin, ofBits, toBits}
 use lib.Ieee.Bits.{is-true}
-use borrow.Author.Tests.{le-leb, lt-leb, lt-ltb, ne-eqb, leb-false, ltb-true, ltb-false}
-use Rattle.scan.specs.Scan.{pick, inClass}
+use borrow.Author.Tests.{le-leb, lt-leb, lt-ltb, ne-eqb, leb-true, leb-false, ltb-true, ltb-false}
+use Rattle.scan.specs.Scan.{pick, inClass, trimStart, trimEnd}
 use Rattle.scan.specs.declared.Class.the-variants.{Not}
 use Rattle.scan.proofs.Laws.{picked, span-low}
 use Rattle.refusal.specs.Refusal.{mostBytes}
 use Rattle.float.specs.Float.{zero as plusZero, inReach, maxZero, roundAway, roundSize, roundByte, toWord}
 use Rattle.float.proofs.Reach.{cut-in-reach, round-in-reach, max-zero-in-reach, round-max-zero}
-use Rattle.numeral.specs.Numeral.{F32}
+use Rattle.numeral.specs.Numeral.{F32, I32, whole, i32At}
 use Rattle.numeral.proofs.Reach.{Bounded}
+use Rattle.survey.specs.Survey.{Unplain, isStop}
+use Rattle.survey.proofs.Laws.{unplain-wider}
+use Rattle.survey.proofs.Long.{Ends, far-unplain}
 use Rattle.lists.specs.Lists as Lists
 use Rattle.lists.specs.Lists.{commaTo, split, parts}
 use Rattle.tag.specs.Tag as Tag
@@ -27,12 +31,13 @@ use Rattle.tag.specs.Table.{records, bits, flagWord}
 use Rattle.tag.specs.Range as Range
 use Rattle.tag.specs.Range.{WordClass, range, wordFits, partFits, rows, joinFits, inRange}
 use Rattle.plain.specs.Names.{Shape, float, pair, ranged, flag, alpha, colour, clip, beat, fad, fade, move, edge, baseline, weight, reset, unknown, names}
-use Rattle.plain.specs.Plain.{part, floatOf, f32s, i32s, allFloats, floatsIn, floats, allInts, ints, nth, nthInt, timeOf, notBelowZero, isFar}
+use Rattle.plain.specs.Plain.{part, floatOf, f32s, i32s, allFloats, floatsIn, floats, allInts, intOf, intsIn, ints, nth, nthInt, timeOf, notBelowZero, isFar}
 use Rattle.plain.specs.Coded.{recordOf, kindOf}
 use Rattle.plain.proofs.Numbers.{Small, zero-small}
 use Rattle.plain.proofs.Commas.{ints-read}
 use Rattle.plain.proofs.Every.{Every, gather}
-use Rattle.read.proofs.Inside.{tested, span-to-high, All, all, more, all-map, F32In, no-numeral, too-long, a-number, f32-wider, f32-in}
+use Rattle.scan.proofs.Bounds.{tested, span-to-high, trim-start-low, trim-end-high}
+use Rattle.read.proofs.Inside.{span-ends, not-stops, All, all, more, all-map, F32In, no-numeral, too-long, a-number, f32-wider, f32-in}
 
 -- ---- words
 
@@ -100,37 +105,85 @@ zero-bounded : Bounded plusZero
 unfolding inReach toBits ofBits
 zero-bounded = record { reach = tt; word = lit< tt; back = refl }
 
-bounded-of : {p q : ℕ} {x : F32} → F32In p q x → Bounded (floatOf x)
+bounded-of : {s : List ℕ} {top p q : ℕ} {x : F32} → F32In s top p q x → Bounded (floatOf x)
 bounded-of no-numeral = zero-bounded
-bounded-of (too-long k a b) = zero-bounded
+bounded-of (too-long k a b u) = zero-bounded
 bounded-of (a-number b) = b
+
+comma-stops : isStop 44 ≡ true
+unfolding isStop
+comma-stops = refl
 
 module _ (s : List ℕ) where
   all-bounded : (l : List Lists.Part) (n : ℕ) → Bounded (nth (floatsIn (f32s s l)) n)
   unfolding f32s floatsIn
   all-bounded [] n = zero-bounded
-  all-bounded (x ∷ l) zero = bounded-of (f32-in s (x .from) (x .to))
+  all-bounded (x ∷ l) zero = bounded-of (f32-in s (x .to) (x .from) (x .to) (le-refl (x .to)) (inl refl))
   all-bounded (x ∷ l) (suc n) = all-bounded l n
 
-  parts-in : (q n p : ℕ) → p ≤ q → All (F32In p q) (f32s s (split s q n p))
+  parts-in : (top q n p : ℕ) → p ≤ q → q ≤ top → Ends s top q → All (F32In s top p q) (f32s s (split s q n p))
   unfolding f32s split
-  parts-in q zero p h = more (f32-in s p q) all
-  parts-in q (suc n) p h =
+  parts-in top q zero p h g f = more (f32-in s top p q g f) all
+  parts-in top q (suc n) p h g f =
       let c = commaTo s p q in
       let low : p ≤ commaTo s p q = span-low (inClass (Not 44)) s (q - p) p in
       let high : commaTo s p q ≤ q = span-to-high (inClass (Not 44)) s p q h in
-      tested (λ (l : List Lists.Part). All (F32In p q) (f32s s l)) c q
-      (λ (k : c < q). more (f32-wider (le-refl p) high (f32-in s p c)) (all-map (λ (x : F32) (y : F32In (c + 1) q x). f32-wider (omega arith) (le-refl q) y) (parts-in q n (c + 1) (omega arith))))
-      (λ (k : q ≤ c). more (f32-wider (le-refl p) high (f32-in s p c)) all)
+      let ends = span-ends (inClass (Not 44)) s top p q (not-stops 44 comma-stops) h f in
+      tested (λ (l : List Lists.Part). All (F32In s top p q) (f32s s l)) c q
+      (λ (k : c < q). more (f32-wider (le-refl p) high (f32-in s top p c (le-trans high g) ends)) (all-map (λ (x : F32) (y : F32In s top (c + 1) q x). f32-wider (omega arith) (le-refl q) y) (parts-in top q n (c + 1) (omega arith) g f)))
+      (λ (k : q ≤ c). more (f32-wider (le-refl p) high (f32-in s top p c (le-trans high g) ends)) all)
 
-  pub f32s-in : (p q : ℕ) → p ≤ q → All (F32In p q) (f32s s (parts s p q))
-  f32s-in p q h = parts-in q (q - p) p h
+  pub f32s-in : (top p q : ℕ) → p ≤ q → q ≤ top → Ends s top q → All (F32In s top p q) (f32s s (parts s p q))
+  f32s-in top p q h g f = parts-in top q (q - p) p h g f
 
   pub floats-bounded : (p q n : ℕ) → Bounded (nth (floats (f32s s (parts s p q))) n)
   floats-bounded p q n = picked (λ (l : List Float). Bounded (nth l n)) (allFloats (f32s s (parts s p q))) _ _ (all-bounded (parts s p q) n) zero-bounded
 
   pub ints-small : (p q n : ℕ) → Small (nthInt (ints (i32s s (parts s p q))) n)
   ints-small p q n = picked (λ (l : List ℤ). Small (nthInt l n)) (allInts (i32s s (parts s p q))) _ _ (ints-read s p q .fine n) zero-small
+
+  -- a number that is far stands in a text that is not plain
+  abbrev pub Near : ℕ → ℕ → ℤ → Type 0
+  Near p q z = isFar z ≡ true → (top : ℕ) → Unplain s top p q
+
+  far-size : (z : ℤ) → isFar z ≡ true → 1000000000 < natAbs z
+  far-size (pos n) e = ltb-true 1000000000 n e
+  far-size (negsuc n) e = omega (arith, leb-true 1000000000 n e)
+
+  near-zero : (p q : ℕ) → Near p q (pos 0)
+  near-zero p q e = absurd (true≢false (sym e))
+
+  int-near : (p q : ℕ) → Near p q (intOf (i32At s p q))
+  int-near p q = go (i32At s p q) refl
+    where
+      a : ℕ
+      a = trimStart s p q
+
+      go : (x : I32) → i32At s p q ≡ x → Near p q (intOf x)
+      go I32.none e = near-zero p q
+      go (whole z) e = λ f top. unplain-wider (trim-start-low s p q) (trim-end-high s a q) (far-unplain s top a (trimEnd s a q) z e (far-size z f))
+
+  all-near : (q n p k : ℕ) → p ≤ q → Near p q (nthInt (intsIn (i32s s (split s q n p))) k)
+  unfolding i32s intsIn split
+  all-near q zero p zero h = int-near p q
+  all-near q zero p (suc k) h = near-zero p q
+  all-near q (suc n) p k h =
+      let c = commaTo s p q in
+      let low : p ≤ commaTo s p q = span-low (inClass (Not 44)) s (q - p) p in
+      let high : commaTo s p q ≤ q = span-to-high (inClass (Not 44)) s p q h in
+      tested (λ (l : List Lists.Part). Near p q (nthInt (intsIn (i32s s l)) k)) c q
+      (λ (g : c < q). first c k low high (intsIn (i32s s (split s q n (c + 1)))) (λ j. wider (nthInt (intsIn (i32s s (split s q n (c + 1)))) j) (all-near q n (c + 1) j (omega arith))))
+      (λ (g : q ≤ c). first c k low high [] (λ j. near-zero p q))
+    where
+      wider : (z : ℤ) → Near (commaTo s p q + 1) q z → Near p q z
+      wider z f e top = unplain-wider (omega (arith, span-low (inClass (Not 44)) s (q - p) p)) (le-refl q) (f e top)
+
+      first : (c k : ℕ) → p ≤ c → c ≤ q → (l : List ℤ) → ((j : ℕ) → Near p q (nthInt l j)) → Near p q (nthInt (intOf (i32At s p c) ∷ l) k)
+      first c zero a b l f = λ e top. unplain-wider (le-refl p) b (int-near p c e top)
+      first c (suc k) a b l f = f k
+
+  pub ints-near : (p q n : ℕ) → p ≤ q → Near p q (nthInt (ints (i32s s (parts s p q))) n)
+  ints-near p q n h = picked (λ (l : List ℤ). Near p q (nthInt l n)) (allInts (i32s s (parts s p q))) _ _ (all-near q (q - p) p n h) (near-zero p q)
 
 -- ---- a tag
 

@@ -100,9 +100,3 @@ recordsRead (Refused r) = 0
 pub record Answered (s : List ℕ) (x : Span) (t : List ℕ) (r : Reading) (u : List ℕ) : Type 0 where
   pub reading : r ≡ answer s x (placesOf t)
   pub table : u ≡ after s x t
-
--- what the first run says, by a scratch table of 32 records: the answer; and up to 32 records are in the table, more are not
-pub record Begun (s : List ℕ) (x : Span) (t : List ℕ) (r : Reading) (u : List ℕ) : Type 0 where
-  pub reading : r ≡ answer s x (placesOf t)
-  pub few : recordsRead r ≤ 32 → u ≡ after s x t
-  pub many : 32 < recordsRead r → u ≡ t

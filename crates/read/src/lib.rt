@@ -8,7 +8,7 @@ ghost use Rattle.refusal.specs.declared.Checked.the-variants.{Good};
 ghost use Rattle.tag.specs.Table.{encode, laid};
 ghost use Rattle.read.specs.Block.{paramAt, nameEnd, headAt, HeadIn, peel as peelFrom, peelTo, tagAt, tAt, parse, oneGot};
 ghost use Rattle.read.specs.Heads.{headed, tWords, Peels};
-ghost use Rattle.read.specs.Reading.{Told, readGround, wholeText, lessBraces, answer, after, Answered, Begun, outOf};
+ghost use Rattle.read.specs.Reading.{Told, readGround, wholeText, lessBraces, answer, after, Answered, outOf};
 ghost use Rattle.read.specs.Kept.{keptGot, joinedOut, aroundOut};
 
 // A tag: where its name begins and ends, its parameter from p to q, and the place behind both.
@@ -412,26 +412,27 @@ fn check_read(o: Out, places: usize) -> Reading
     }
 }
 
-// Reads a part of the text into a scratch table; up to 32 records, if nothing stands against them, are copied into the lent one.
-fn read_few(text: &[u8], from: usize, to: usize, table: &mut [u32]) -> Reading
+// Reads a part of a text with no ground 1 or 2: in one run where a first look rules out grounds 3, 4 and 9; else first into no table.
+fn read_good(text: &[u8], from: usize, to: usize, table: &mut [u32]) -> Reading
     requires { ⌜ (from ≤ to) × (to ≤ length (now text)) × (textGround (now text) ≡ Good) ⌝ }
-    ensures { λ r. ⌜ Begun (now (text .entry)) (record { from = from; to = to }) (now (table .entry)) r (now (table .exit)) ⌝ }
+    ensures { λ r. ⌜ Answered (now (text .entry)) (record { from = from; to = to }) (now (table .entry)) r (now (table .exit)) ⌝ }
 {
-    let mut scratch = [1u32; 256];
-    let seen = parse_overrides_depth(text, from, to, 8, &mut scratch);
+    if survey::straight(text, from, to, least(table.len() / 8, 1024)) {
+        let o = parse_overrides_depth(text, from, to, 8, table);
+        return Reading::Read(o.n);
+    }
+    let seen = parse_overrides_depth(text, from, to, 8, &mut table[..0]);
     let answer = check_read(seen, table.len() / 8);
     match answer {
         Reading::Refused(r) => Reading::Refused(r),
         Reading::Read(n) => {
-            if n <= 32 {
-                tag::copy(&scratch, n, table);
-            }
+            let _ = parse_overrides_depth(text, from, to, 8, table);
             Reading::Read(n)
         }
     }
 }
 
-// Reads a part of the text: by the scratch table, and once more, into the lent one, where that holds too few records.
+// Reads a part of the text.
 fn read_span(text: &[u8], from: usize, to: usize, table: &mut [u32]) -> Reading
     requires { ⌜ (from ≤ to) × (to ≤ length (now text)) ⌝ }
     ensures { λ r. ⌜ Answered (now (text .entry)) (record { from = from; to = to }) (now (table .entry)) r (now (table .exit)) ⌝ }
@@ -439,18 +440,7 @@ fn read_span(text: &[u8], from: usize, to: usize, table: &mut [u32]) -> Reading
     let checked = refusal::check_text(text);
     match checked {
         refusal::Checked::Bad(r) => Reading::Refused(r),
-        refusal::Checked::Good => {
-            let answer = read_few(text, from, to, table);
-            match answer {
-                Reading::Refused(r) => Reading::Refused(r),
-                Reading::Read(n) => {
-                    if n > 32 {
-                        let _ = parse_overrides_depth(text, from, to, 8, table);
-                    }
-                    Reading::Read(n)
-                }
-            }
-        }
+        refusal::Checked::Good => read_good(text, from, to, table),
     }
 }
 

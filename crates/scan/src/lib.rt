@@ -214,7 +214,7 @@ pub fn span_back(text: &[u8], class: Class, from: usize, to: usize) -> usize
     e
 }
 
-fn is_blank(b: u8) -> bool
+pub fn is_blank(b: u8) -> bool
     ensures { λ r. ⌜ r ≡ isBlank b ⌝ }
 {
     if b > 32 {

@@ -96,6 +96,10 @@ laid-step t g rs n m m′ e e′ =
     ∙ ap (λ (l : List ℕ). l ++ laid (drop (length (take m t) + (m′ - m)) (take m t ++ laid (drop m t) g)) rs) tk
     ∙ ap (λ (l : List ℕ). (take m t ++ take (m′ - m) (laid (drop m t) g)) ++ laid l rs) dr)
 
+-- an empty table stays empty
+pub laid-none : (rs : List Record) → laid [] rs ≡ []
+laid-none rs = laid-short [] rs (omega arith)
+
 -- with room for all, the table is the records' words and then the rest of what it held
 pub laid-full : (rs : List Record) (t : List ℕ) → 8 * length rs ≤ length t → laid t rs ≡ tableWords rs ++ drop (8 * length rs) t
 unfolding laid tableWords

@@ -1,0 +1,67 @@
+use mathlib.Core.Path.{_≡_, refl}
+use mathlib.Core.Logic.{⊎-elim}
+use Prim.Native.Nat.{_+_, _-_, _≤_}
+use native.Mathlib.Omega.{arith}
+use borrow.Author.Needs.{needs}
+use Rattle.survey.specs.Survey.{slashesTo}
+use Rattle.survey.proofs.Laws.{slashes-end, slashes-one, slashes-none}
+use Rattle.survey.proofs.slashes.Statement.{statement}
+use Rattle.survey.proofs.slashes.Tie as tie
+use Rattle.survey.proofs.slashes.Reads as reads
+use Rattle.survey.proofs.slashes.Lts as lts
+
+abbrev Inv-loop : tie.InvT-loop
+Inv-loop text from to n₀ i₀ n i = (from ≤ i) × (i ≤ to) × (n ≤ i - from) × (slashesTo text from to ≡ n + slashesTo text i to)
+
+abbrev μ-loop : tie.MeasureT-loop
+μ-loop text from to n₀ i₀ n i = to - i
+
+loop-holds : tie.Need-loop-holds Inv-loop μ-loop
+loop-holds c = (search needs, search needs, search needs, omega arith)
+
+shared-slice-read-if1 : tie.Need-shared-slice-read-if1 Inv-loop μ-loop
+shared-slice-read-if1 c = search needs
+
+add-n : tie.Need-add-n Inv-loop μ-loop
+add-n c = search needs
+
+add-i : tie.Need-add-i Inv-loop μ-loop
+add-i c = search needs
+
+loop-less : tie.Need-loop-less Inv-loop μ-loop
+loop-less c = search needs
+
+loop-again : tie.Need-loop-again Inv-loop μ-loop
+loop-again c =
+    let l = c .before .before .before .loop in
+    let t = c .before .before .loop-test .taken in
+    let k = l .inv .3 in
+    let a = c .before .before .before .before .args in (
+      search needs,
+      search needs,
+      ⊎-elim (λ w. omega arith) (λ w. omega arith) (c .if1 .came),
+      ⊎-elim
+          (λ w. omega (arith, slashes-one (a .text .now) (l .i) (a .to) t (w .0 .taken)))
+          (λ w. omega (arith, slashes-none (a .text .now) (l .i) (a .to) t (w .0 .left)))
+          (c .if1 .came),
+    )
+
+returns : tie.Need-returns Inv-loop μ-loop
+returns c =
+    let l = c .before .loop in
+    let k = l .inv .3 in
+    omega (arith, slashes-end (c .before .before .args .text .now) (l .i) (c .before .before .args .to) (c .loop-test .left))
+
+pub slashes-spec : {M : Type 1} → statement M
+slashes-spec =
+    tie.close
+    (tie.spec
+    Inv-loop
+    μ-loop
+    loop-holds
+    shared-slice-read-if1
+    add-n
+    add-i
+    loop-less
+    loop-again
+    returns)
