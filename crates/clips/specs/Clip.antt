@@ -1,17 +1,19 @@
 -- A clip argument: Rust's `split_clip_arg`.
 use mathlib.Core.Path.{_≡_}
 use mathlib.Core.List.{List}
-use Prim.Native.Nat.{ℕ, _+_, _-_, _≤_}
+use Prim.Native.Nat.{ℕ, _+_, _≤_}
 use lib.Dec.{ltb, eqb}
-use lib.ListN.{length, take, drop}
+use lib.ListN.{length}
+use denote.Ref.{RefT, now}
 use Rattle.scan.specs.Scan.{pick, inClass, spanTo, trimStart, trimEnd}
 use Rattle.scan.specs.declared.Class.the-variants.{Not}
 use Rattle.numeral.specs.Numeral.{wholeNumber}
 use Rattle.refusal.specs.Refusal.{numberOf, placeOf}
 use Rattle.refusal.specs.declared.Checked.{Checked}
 use Rattle.refusal.specs.declared.Checked.the-variants.{Good, Bad}
-use Rattle.clips.specs.declared.Clip.{Clip}
 use Rattle.refusal.specs.Refusal.{textGround}
+use Rattle.clips.specs.declared.Clip.{Clip}
+use Rattle.clips.specs.Part.{between, IsPart}
 
 -- what no u32 is as large as
 abbrev pub tooLarge : ℕ
@@ -50,9 +52,9 @@ clipBy (Bad r) s = clip (Bad r) 1 0 0
 abbrev pub clipOf : List ℕ → Clip
 clipOf s = clipBy (textGround s) s
 
--- the part of the text that is handed back
+-- the bytes that are handed back
 abbrev pub restOf : List ℕ → Clip → List ℕ
-restOf s c = take (c .to - c .from) (drop (c .from) s)
+restOf s c = between s (c .from) (c .to)
 
 -- the ground's number, 0 for none; its place
 abbrev pub clipGround : Checked → ℕ
@@ -69,8 +71,12 @@ pub record ClipIn (s : List ℕ) (d r : Clip) : Type 0 where
   pub order : r .from ≤ r .to
   pub high : r .to ≤ length s
 
--- what `split_clip_arg` says of its answer: the part of the text that is handed back, the scale, and ground 1 or 2
-pub record Splits (s part : List ℕ) (scale : ℕ) (c : Checked) : Type 0 where
-  pub rest : part ≡ restOf s (clipOf s)
-  pub size : scale ≡ clipOf s .scale
-  pub ground : c ≡ textGround s
+-- 01: "hands back the rest of the argument itself": r is the rest of the text t, the caller's own bytes where they lie
+abbrev pub IsRest : RefT (List ℕ) → RefT (List ℕ) → Type 0
+IsRest t r = IsPart t (clipOf (now t) .from) (clipOf (now t) .to) r
+
+-- what `split_clip_arg` says of its answer to the text t: the rest of it, the scale, and ground 1 or 2
+pub record Splits (t r : RefT (List ℕ)) (scale : ℕ) (c : Checked) : Type 0 where
+  pub rest : IsRest t r
+  pub size : scale ≡ clipOf (now t) .scale
+  pub ground : c ≡ textGround (now t)

@@ -1,6 +1,6 @@
 // Clip arguments: the scale, and the rest of the caller's own slice.
 ghost use mathlib.Core.Path.{_≡_};
-ghost use Rattle.clips.specs.Clip.{atLeastOne, clipParts, clipOf, restOf, ClipIn, Splits};
+ghost use Rattle.clips.specs.Clip.{atLeastOne, clipParts, clipOf, ClipIn, IsRest, Splits};
 
 // A clip argument: a ground that stands against it, the scale, and where the rest of it begins and ends.
 pub struct Clip {
@@ -75,9 +75,9 @@ pub fn clip_scale(text: &[u8]) -> u32
     c.scale
 }
 
-// The rest of a clip argument, a part of the text given.
+// The rest of a clip argument: that part of the text given itself, where it lies.
 pub fn clip_rest(text: &[u8]) -> &[u8]
-    ensures { λ r. ⌜ now r ≡ restOf (now (text .entry)) (clipOf (now (text .entry))) ⌝ }
+    ensures { λ r. ⌜ IsRest (text .entry) r ⌝ }
 {
     let c = clip_at(text);
     let from = c.from;
@@ -94,7 +94,7 @@ pub struct ClipArg<'a> {
 
 // 01, src/drawing.rs: "`split_clip_arg` gives the scale (at least 1) and hands back the rest of the argument itself".
 pub fn split_clip_arg<'a>(text: &'a [u8]) -> ClipArg<'a>
-    ensures { λ r. ⌜ Splits (now (text .entry)) (now (r .rest)) (r .scale) (r .checked) ⌝ }
+    ensures { λ r. ⌜ Splits (text .entry) (r .rest) (r .scale) (r .checked) ⌝ }
 {
     ClipArg {
         rest: clip_rest(text),

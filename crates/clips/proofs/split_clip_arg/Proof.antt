@@ -43,7 +43,7 @@ use denote.Triple.Table.{entered, cited}
 use denote.Triple.Walked.{says, Stays, stay-none-slice, walkOf, goes-none-slice, Walks, ends-at, walked, walk-meets}
 use denote.Exit.{yes}
 use Rattle.refusal.specs.Refusal.{textGround}
-use Rattle.clips.specs.Clip.{clipOf, restOf}
+use Rattle.clips.specs.Clip.{clipOf, IsRest}
 use Rattle.refusal.specs.declared.Checked.{Checked}
 use Rattle.clips.specs.declared.ClipArg.{ClipArg}
 use Rattle.clips.proofs.ClipArg as T
@@ -110,9 +110,6 @@ module _ {M : Type 1} (𝓤 : URA M) (H : Heap 𝓤) (A : Atoms 𝓤) (W : Given
   mach r n t = vstruct (spelled (T.the-type α .parts) (T′.the-laws α) (r, (n, (t, tt))))
 
   -- what is known of the results
-  abbrev IsRest : RefT (List ℕ) → Type 0
-  IsRest r = now r ≡ restOf (now s) (clipOf (now s))
-
   abbrev IsScale : ℕ → Type 0
   IsScale n = n ≡ clipOf (now s) .scale
 
@@ -146,8 +143,8 @@ module _ {M : Type 1} (𝓤 : URA M) (H : Heap 𝓤) (A : Atoms 𝓤) (W : Given
       move ! (1 ∷ []) $ use1 W (‵ Own ⊛ ‵ Own) (shr-slice-copy 𝓤 H A W (named 0) κ u8 .twice s (v ∷ [])) $ split ! $
       nothing ! $ move ! (1 ∷ 0 ∷ []) $ fjoin ! $ move ! (2 ∷ 0 ∷ []) $ use2 W (raw (Ground 𝓤 H A mem run .pre to-ground)) (qed W ((‵ (flft κ q) ⊛ ‵ ftrue) ∷ ‵ (owns (ShrSlice (named 0) κ u8 ∷ []) (s, tt) (v ∷ [], tt)) ∷ []) ∵ join ! $ frame ! $ done !) $ frame ! $ done !
 
-  rest-said : (r : RefT (List ℕ)) → ent 𝓤 (ensured 𝓤 H A rest.ended (rest.clauses 𝓤 H A mem run) (κ, tt) (s, tt) tt r) (fact 𝓤 (IsRest r))
-  rest-said r = exE 𝓤 _ (λ ws. snd∗ 𝓤 (sem 𝓤 H A (lasts rest.ended (κ, tt) (s, tt) ws)) (fact 𝓤 (IsRest r)))
+  rest-said : (r : RefT (List ℕ)) → ent 𝓤 (ensured 𝓤 H A rest.ended (rest.clauses 𝓤 H A mem run) (κ, tt) (s, tt) tt r) (fact 𝓤 (IsRest s r))
+  rest-said r = exE 𝓤 _ (λ ws. snd∗ 𝓤 (sem 𝓤 H A (lasts rest.ended (κ, tt) (s, tt) ws)) (fact 𝓤 (IsRest s r)))
 
   scale-said : (n : ℕ) → ent 𝓤 (ensured 𝓤 H A scale.ended (scale.clauses 𝓤 H A mem run) (κ, tt) (s, tt) tt n) (fact 𝓤 (IsScale n))
   scale-said n = exE 𝓤 _ (λ ws. snd∗ 𝓤 (sem 𝓤 H A (lasts scale.ended (κ, tt) (s, tt) ws)) (fact 𝓤 (IsScale n)))
@@ -155,7 +152,7 @@ module _ {M : Type 1} (𝓤 : URA M) (H : Heap 𝓤) (A : Atoms 𝓤) (W : Given
   ground-said : (t : Checked) → ent 𝓤 (ensured 𝓤 H A ground.ended (ground.clauses 𝓤 H A mem run) (κ, tt) (s, tt) tt t) (fact 𝓤 (IsGround t))
   ground-said t = exE 𝓤 _ (λ ws. snd∗ 𝓤 (sem 𝓤 H A (lasts ground.ended (κ, tt) (s, tt) ws)) (fact 𝓤 (IsGround t)))
 
-  exits : (r : RefT (List ℕ)) (n : ℕ) (t : Checked) → IsRest r → IsScale n → IsGround t → n < 2 ^ 32
+  exits : (r : RefT (List ℕ)) (n : ℕ) (t : Checked) → IsRest s r → IsScale n → IsGround t → n < 2 ^ 32
       → ent 𝓤 (⋆ 𝓤 H A (‵ (S.the-row .own t (low t ∷ [])) ∷ (‵ (flft κ q) ⊛ ‵ ftrue) ∷ ‵ Own ∷ ‵ (OwnRest r (slice-vals r)) ∷ [])) (Post (mach r n t))
   exits r n t e f g fits =
       qed W (‵ (S.the-row .own t (low t ∷ [])) ∷ (‵ (flft κ q) ⊛ ‵ ftrue) ∷ ‵ Own ∷ ‵ (OwnRest r (slice-vals r)) ∷ []) ∵
@@ -172,7 +169,7 @@ module _ {M : Type 1} (𝓤 : URA M) (H : Heap 𝓤) (A : Atoms 𝓤) (W : Given
         move ! (10 ∷ []) $ use1 W (raw (Rest 𝓤 H A mem run .pre to-rest) ⊛ ‵ Own) goes-rest $ split ! $
         calls-at ! fm (Rest 𝓤 H A mem run) known-rest to-rest (and-then ! (load ! (from ! (stop !)) (look ! 8 refl)) (no-more !)) (λ u.
         use1 W (later (some (λ (r : RefT (List ℕ)). ((‵ (flft κ q) ⊛ ‵ ftrue) ⊛ ‵ (OwnRest r (u ∷ []))) ⊛ raw (ensured 𝓤 H A rest.ended (rest.clauses 𝓤 H A mem run) (κ, tt) (s, tt) tt r)))) (id⊢ 𝓤 _) $ await ! tt $ pick ! (λ r.
-        split ! $ move ! (1 ∷ []) $ use1 W (raw (fact 𝓤 (IsRest r))) (rest-said r) $ heard ! (IsRest r) (λ e. split ! $ move ! (1 ∷ []) $
+        split ! $ move ! (1 ∷ []) $ use1 W (raw (fact 𝓤 (IsRest s r))) (rest-said r) $ heard ! (IsRest s r) (λ e. split ! $ move ! (1 ∷ []) $
         -- [what the rest owns; the token; what s owns; room for _4; …; room for _3; …; room for _2; …; _1; …; room for _0; …]
         peeks ! (ShrSlice (named 0) κ u8) (Is (ShrSlice (named 0) κ u8)) (shows 𝓤 H A (ShrSlice (named 0) κ u8)) r (u ∷ []) (λ is.
         land ! (from ! (stop !)) (init ! 7 refl (shr-slice-lawful 𝓤 H A W erased κ u8 .typed r _ is .0)) $
