@@ -24,7 +24,7 @@ use Rattle.colour.specs.Colour.{isAmpersand, trimmed, ampersands, digits, alpha
 use Rattle.tag.specs.Tag as Tag
 use Rattle.tag.specs.Tag.{AnimatedTag, KaraokeKind, Fill, Sweep, Outline, Fad, Fade, Be, Pbo, B, Fn, R, named}
 use Rattle.tag.specs.Table.{records}
-use Rattle.tag.specs.Range.{range, rows, joinFits, inRange}
+use Rattle.tag.specs.Range.{range, rows, inRange}
 use Rattle.plain.specs.Names.{Shape, float, pair, ranged, flag, alpha, colour, clip, beat, fad, fade, move, edge, baseline, weight, reset, unknown, names, lookup, keyAt}
 use Rattle.plain.specs.Plain.{One, no, long, kept, far, part, mapF32, mapAlpha, mapColour, allFloats, floats, nth, nthInt, firstLong, pairOf, moveOf, notBelowZero, byteOf, fadOf, isFar, fadeOf, rangedOf, weightOf, flagOf, clipOf, resetOf, beatOf, shaped, isFn, isNamedReset, plainAt}
 use Rattle.plain.specs.Coded.{kindOf}
@@ -62,17 +62,17 @@ module _ (s : List ℕ) (top p q : ℕ) (order : p ≤ q) (short : q ≤ mostByt
   fine-f32 f h (a-number b) = tag (h _ b)
 
   fine-beat : (k : KaraokeKind) (x : Float) → Bounded x → Sound (beatOf k x)
-  unfolding records inRange rows joinFits
+  unfolding records inRange rows
   fine-beat Fill x b = rw (beat-fits b)
   fine-beat Sweep x b = rw (beat-fits b)
   fine-beat Outline x b = rw (beat-fits b)
 
   fine-edge : (x : Float) → Bounded x → Sound (Be (roundByte x))
-  unfolding records inRange rows joinFits
+  unfolding records inRange rows
   fine-edge x b = rw (edge-fits x)
 
   fine-baseline : (x : Float) → Bounded x → Sound (Pbo (roundAway x))
-  unfolding records inRange rows joinFits
+  unfolding records inRange rows
   fine-baseline x b = rw (round-fits b)
 
   fine-ranged : (a b : ℕ) (f : ℕ → AnimatedTag) → Ranged (ranged a b f) → (y : I32) → Good (rangedOf a b f y)
@@ -87,7 +87,7 @@ module _ (s : List ℕ) (top p q : ℕ) (order : p ≤ q) (short : q ≤ mostByt
       go false u h = nothing
 
   fine-weight : (y : I32) → Good (weightOf y)
-  unfolding weightOf records inRange rows joinFits
+  unfolding weightOf records inRange rows
   fine-weight I32.none = nothing
   fine-weight (whole (negsuc n)) = nothing
   fine-weight (whole (pos n)) = picked Good (eqb n 0) _ _ (tag refl) (picked Good (eqb n 1) _ _ (tag refl) (go (leb 100 n) (leb n 900) refl refl))
@@ -147,7 +147,7 @@ module _ (s : List ℕ) (top p q : ℕ) (order : p ≤ q) (short : q ≤ mostByt
   fine-pair f h l b = picked Good (eqb (length l) 2) _ _ (tag (h _ _ (float-fits (b 0)) (float-fits (b 1)))) nothing
 
   fine-move : (l : List Float) → ((n : ℕ) → Bounded (nth l n)) → Good (moveOf l)
-  unfolding moveOf records inRange rows joinFits
+  unfolding moveOf records inRange rows
   fine-move l b =
       picked Good (eqb (length l) 4) _ _
       (tag (rw (float-fits (b 0), float-fits (b 1), float-fits (b 2), float-fits (b 3))))
@@ -164,7 +164,7 @@ module _ (s : List ℕ) (top p q : ℕ) (order : p ≤ q) (short : q ≤ mostByt
       drawing
 
   fine-fad : (l : List ℤ) → ((n : ℕ) → Small (nthInt l n)) → Good (fadOf l)
-  unfolding fadOf records inRange rows joinFits
+  unfolding fadOf records inRange rows
   fine-fad l b =
       picked Good (leb 2 (length l)) _ _
       (tag {x = Fad (notBelowZero (nthInt l 0)) (notBelowZero (nthInt l 1))} (rw (fad-fits (nthInt l 0) (b 0), fad-fits (nthInt l 1) (b 1))))
@@ -172,7 +172,7 @@ module _ (s : List ℕ) (top p q : ℕ) (order : p ≤ q) (short : q ≤ mostByt
 
   -- one far time makes it far; else all four are near
   fine-fade : (l : List ℤ) → ((n : ℕ) → Near s p q (nthInt l n)) → Good (fadeOf l)
-  unfolding fadeOf records inRange rows joinFits
+  unfolding fadeOf records inRange rows
   fine-fade l near =
       picked Good (leb 7 (length l)) _ _
       (go (isFar (nthInt l 3)) (isFar (nthInt l 4)) (isFar (nthInt l 5)) (isFar (nthInt l 6)) refl refl refl refl)
@@ -195,7 +195,7 @@ module _ (s : List ℕ) (top p q : ℕ) (order : p ≤ q) (short : q ≤ mostByt
   -- ---- a name
 
   fine-reset : Good (kept (resetOf s p q))
-  unfolding resetOf records inRange rows joinFits
+  unfolding resetOf records inRange rows
   fine-reset =
       let a = trimStart s p q in
       let b = trimEnd s a q in
@@ -205,7 +205,7 @@ module _ (s : List ℕ) (top p q : ℕ) (order : p ≤ q) (short : q ≤ mostByt
 
   -- the letters behind fn make the name, then what the parameter adds
   fine-fn : (i m : ℕ) → i + 2 < m → m ≤ mostBytes → Good (kept (Fn (part (i + 2) m) (part p (trimEnd s p q))))
-  unfolding records inRange rows joinFits
+  unfolding records inRange rows
   fine-fn i m l a =
       let y = part p (trimEnd s p q) in
       tag {x = Fn (part (i + 2) m) y} (rw (part-fits (i + 2) m a, part-fits p (trimEnd s p q) (omega (arith, trim-end-high s p q)), full (part (i + 2) m .size) (y .size) (ltb-true 0 _ (part-full (i + 2) m l))))
@@ -214,7 +214,7 @@ module _ (s : List ℕ) (top p q : ℕ) (order : p ≤ q) (short : q ≤ mostByt
       full n k h = lt-ltb 0 (n + k) (omega arith)
 
   fine-named : (i m : ℕ) → i + 1 < m → m ≤ mostBytes → Good (kept (R (named (part (i + 1) m))))
-  unfolding records inRange rows joinFits
+  unfolding records inRange rows
   fine-named i m l a = tag {x = R (named (part (i + 1) m))} (rw (part-fits (i + 1) m a, part-full (i + 1) m l))
 
   -- ---- any plain tag

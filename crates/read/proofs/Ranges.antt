@@ -23,7 +23,7 @@ use Rattle.lists.specs.declared.Found.the-variants.{Nowhere, At}
 use Rattle.tag.specs.Tag.{AnimatedTag, Times, Tags, none, and, append, T}
 use Rattle.tag.specs.Table.{bits, records, encode, tRecord}
 use Rattle.tag.specs.Range as Range
-use Rattle.tag.specs.Range.{inRange, rows, joinFits}
+use Rattle.tag.specs.Range.{inRange, rows}
 use Rattle.tag.specs.declared.Record.{Record}
 use Rattle.tag.proofs.Tags.{encode-append}
 use Rattle.plain.specs.Plain.{One}
@@ -49,7 +49,7 @@ unfolding ofBits toBits inReach
 one-fits = refl
 
 t-in-range : {l : List Float} → All Bounded l → (n : ℕ) → InRange (tRecord (headTimes l) (headAccel l) n)
-unfolding inRange rows joinFits
+unfolding inRange rows
 t-in-range all n = rw one-fits
 t-in-range (more a all) n = rw (float-fits a)
 t-in-range (more a (more b all)) n = rw (cut-fits a, cut-fits b, one-fits)

@@ -29,7 +29,7 @@ use Rattle.tag.specs.Tag as Tag
 use Rattle.tag.specs.Tag.{AnimatedTag}
 use Rattle.tag.specs.Table.{records, bits, flagWord}
 use Rattle.tag.specs.Range as Range
-use Rattle.tag.specs.Range.{WordClass, range, wordFits, partFits, rows, joinFits, inRange}
+use Rattle.tag.specs.Range.{WordClass, range, wordFits, partFits, rows, inRange}
 use Rattle.plain.specs.Names.{Shape, float, pair, ranged, flag, alpha, colour, clip, beat, fad, fade, move, edge, baseline, weight, reset, unknown, names}
 use Rattle.plain.specs.Plain.{part, floatOf, f32s, i32s, allFloats, floatsIn, floats, allInts, intOf, intsIn, ints, nth, nthInt, timeOf, notBelowZero, isFar}
 use Rattle.plain.specs.Coded.{recordOf, kindOf}
@@ -223,7 +223,7 @@ Ranged reset = Unit
 Ranged unknown = Unit
 
 pub every : Every Ranged names
-unfolding names records inRange rows joinFits
+unfolding names records inRange rows
 every =
     gather Ranged names (Every Ranged names) (λ e. e)
     tt tt tt (λ x h. rw h) (λ x h. rw h) (λ x h. rw h) (λ x h. rw h) (λ x y h k. rw (h, k)) (λ x y h k. rw (h, k)) (λ x h. rw h) tt
