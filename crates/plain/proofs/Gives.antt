@@ -1,5 +1,5 @@
 -- What the code keeps, against what a tag gives: the tag's one record.
-use mathlib.Core.Path.{_≡_, refl}
+use mathlib.Core.Path.{_≡_, refl, ap, _∙_}
 use mathlib.Core.Bool.{Bool, true, false}
 use mathlib.Core.List.{List, [], _∷_}
 use Prim.Native.Nat.{ℕ, suc, _-_, _≤_, _<_}
@@ -19,6 +19,7 @@ use Rattle.lists.specs.declared.Found.{Found}
 use Rattle.tag.specs.declared.Record.{Record}
 use Rattle.tag.specs.Tag.{AnimatedTag, R, plain, named}
 use Rattle.tag.specs.Table.{rec, head, records, twoFloats, oneNumber, flagWord}
+use Rattle.tag.proofs.Tags.{records-own}
 use Rattle.plain.specs.declared.Kept.{Kept}
 use Rattle.plain.specs.declared.Kept.the-variants as Kept
 use Rattle.plain.specs.Plain.{One, no, long, kept, far, part, f32s, firstLong, pairOf, moveOf, fadOf, fadeOf, rangedOf, weightOf, flagOf, resetOf, intOf, nthInt, isFar}
@@ -33,11 +34,15 @@ pub data Gives : Kept → One → Type 0 where
   tag : {r : Record} {x : AnimatedTag} → records x ≡ r ∷ [] → Gives (Kept.Tag r) (kept x)
   away : {r : Record} {x : AnimatedTag} → records x ≡ r ∷ [] → Gives (Kept.Far r) (far x)
 
+-- where there is one record it is the tag's own
+own-record : (x : AnimatedTag) {r : Record} → records x ≡ r ∷ [] → r ≡ head x
+own-record x e = cc (records-own x)
+
 pub gives-kept : {k : Kept} {o : One} → Gives k o → k ≡ keptOf o
 gives-kept nothing = refl
 gives-kept (late p) = refl
-gives-kept (tag e) = rw e
-gives-kept (away e) = rw e
+gives-kept (tag {x = x} e) = ap Kept.Tag (own-record x e)
+gives-kept (away {x = x} e) = ap Kept.Far (own-record x e)
 
 -- what is kept has one record
 abbrev pub Single : One → Type 0
@@ -49,8 +54,8 @@ Single (far x) = records x ≡ head x ∷ []
 pub gives-single : {k : Kept} {o : One} → Gives k o → Single o
 gives-single nothing = tt
 gives-single (late p) = tt
-gives-single (tag e) = rw e
-gives-single (away e) = rw e
+gives-single (tag {x = x} e) = e ∙ ap (λ (r : Record). r ∷ []) (own-record x e)
+gives-single (away {x = x} e) = e ∙ ap (λ (r : Record). r ∷ []) (own-record x e)
 
 pub gives-pick : (b : Bool) {k j : Kept} {o u : One} → Gives k o → Gives j u → Gives (pick b k j) (pick b o u)
 gives-pick true g h = g

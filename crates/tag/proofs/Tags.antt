@@ -5,10 +5,10 @@ use Prim.Native.Nat.{ℕ, suc, _+_}
 use native.Mathlib.Omega.{arith}
 use lib.ListN.{length, length-append}
 use Rattle.tag.specs.declared.Record.{Record}
-use Rattle.tag.specs.Tag.{AnimatedTag, Fad, Fade, Pos, Move, Frz, Blur, Fscx, Fscy, Color1, Fs, ClipRect, ClipDrawing, Frx, Fry, Org, Bord, Xbord, Ybord, Shad, Xshad, Yshad, Be, Fax, Fay, IClipRect, IClipDrawing, Color2, Color3, Color4, Alpha, Alpha1, Alpha2, Alpha3, Alpha4, Fsp, Q, An, A, Fn, Fe, R, B, I, U, S, Karaoke, Pbo, P, T, Tags, none, and, append, inside, foldTag, foldTags, count}
+use Rattle.tag.specs.Tag.{AnimatedTag, Fad, Fade, Pos, Move, Frz, Blur, Fscx, Fscy, Color1, Fs, ClipRect, ClipDrawing, Frx, Fry, Org, Bord, Xbord, Ybord, Shad, Xshad, Yshad, Be, Fax, Fay, IClipRect, IClipDrawing, Color2, Color3, Color4, Alpha, Alpha1, Alpha2, Alpha3, Alpha4, Fsp, Q, An, A, Fn, Fe, R, B, I, U, S, Karaoke, Pbo, P, T, Tags, none, and, append, inside, foldTag, foldTags, count, Part, mapOwn, mapParts}
 use Rattle.tag.specs.Table.{head, records, encode}
 
--- ---- every tag: the two laws that go over the 49 cases
+-- ---- every tag: the three laws that go over the 49 cases
 
 -- what a tag gives comes from what is inside it
 pub fold-own : {A B : Type 0} (own : AnimatedTag → A → B) (nil : A) (cons : B → A → A) (x : AnimatedTag) → foldTag own nil cons x ≡ own x (foldTags own nil cons (inside x))
@@ -61,6 +61,58 @@ fold-own own nil cons (Karaoke k a) = refl
 fold-own own nil cons (Pbo i) = refl
 fold-own own nil cons (P a) = refl
 fold-own own nil cons (T t x l) = refl
+
+-- a tag whose parts are changed has inside it what it is given, where it had any inside
+pub map-inside : (f : Part → Part) (u : Tags → Tags) → u none ≡ none → (x : AnimatedTag) → inside (mapOwn f x (u (inside x))) ≡ u (inside x)
+map-inside f u e (Fad a b) = sym e
+map-inside f u e (Fade a b c i j k h) = sym e
+map-inside f u e (Pos x y) = sym e
+map-inside f u e (Move x y z w t) = sym e
+map-inside f u e (Frz x) = sym e
+map-inside f u e (Blur x) = sym e
+map-inside f u e (Fscx x) = sym e
+map-inside f u e (Fscy x) = sym e
+map-inside f u e (Color1 c) = sym e
+map-inside f u e (Fs x) = sym e
+map-inside f u e (ClipRect x y z w) = sym e
+map-inside f u e (ClipDrawing p) = sym e
+map-inside f u e (Frx x) = sym e
+map-inside f u e (Fry x) = sym e
+map-inside f u e (Org x y) = sym e
+map-inside f u e (Bord x) = sym e
+map-inside f u e (Xbord x) = sym e
+map-inside f u e (Ybord x) = sym e
+map-inside f u e (Shad x) = sym e
+map-inside f u e (Xshad x) = sym e
+map-inside f u e (Yshad x) = sym e
+map-inside f u e (Be a) = sym e
+map-inside f u e (Fax x) = sym e
+map-inside f u e (Fay x) = sym e
+map-inside f u e (IClipRect x y z w) = sym e
+map-inside f u e (IClipDrawing p) = sym e
+map-inside f u e (Color2 c) = sym e
+map-inside f u e (Color3 c) = sym e
+map-inside f u e (Color4 c) = sym e
+map-inside f u e (Alpha a) = sym e
+map-inside f u e (Alpha1 a) = sym e
+map-inside f u e (Alpha2 a) = sym e
+map-inside f u e (Alpha3 a) = sym e
+map-inside f u e (Alpha4 a) = sym e
+map-inside f u e (Fsp x) = sym e
+map-inside f u e (Q a) = sym e
+map-inside f u e (An a) = sym e
+map-inside f u e (A a) = sym e
+map-inside f u e (Fn p q) = sym e
+map-inside f u e (Fe a) = sym e
+map-inside f u e (R r) = sym e
+map-inside f u e (B a) = sym e
+map-inside f u e (I b) = sym e
+map-inside f u e (U b) = sym e
+map-inside f u e (S b) = sym e
+map-inside f u e (Karaoke k a) = sym e
+map-inside f u e (Pbo i) = sym e
+map-inside f u e (P a) = sym e
+map-inside f u e (T t x l) = refl
 
 -- what holds of no tags, and of a tag before others where it holds of those inside it and of the others, holds of all
 module _ (Has : Tags → Type 0) (nil : Has none) (cons : (x : AnimatedTag) (l : Tags) → Has (inside x) → Has l → Has (and x l)) where
@@ -145,6 +197,10 @@ pub count-and : (x : AnimatedTag) (l : Tags) → count (and x l) ≡ suc (count 
 unfolding count
 count-and x l = ap (λ (n : ℕ). n + count l) (fold-own (λ y n. suc n) 0 _+_ x)
 
+pub count-none : count none ≡ 0
+unfolding count
+count-none = refl
+
 none-length : count none ≡ length (encode none)
 unfolding count encode
 none-length = refl
@@ -155,5 +211,17 @@ count-length =
     tags-all (λ l. count l ≡ length (encode l)) none-length
     (λ x l i h. count-and x l ∙ rw (encode-and x l, records-own x) (simp length-append (omega arith)))
 
+-- a tag with one record is one
+pub count-single : (x : AnimatedTag) {r : Record} → records x ≡ r ∷ [] → count (and x none) ≡ 1
+count-single x e = count-length (and x none) ∙ ap length (encode-and x none) ∙ rw (e, encode-none)
+
 pub count-append : (a b : Tags) → count (append a b) ≡ count a + count b
 count-append a b = count-length (append a b) ∙ ap (λ (l : List Record). length l) (encode-append a b) ∙ length-append (encode a) (encode b) ∙ rw (← count-length a, ← count-length b)
+
+-- tags whose parts are changed are as many
+pub count-map : (f : Part → Part) (l : Tags) → count (mapParts f l) ≡ count l
+count-map f =
+    tags-all (λ l. count (mapParts f l) ≡ count l) refl
+    (λ x l i h.
+    let e : mapParts f (and x l) ≡ and (mapOwn f x (mapParts f (inside x))) (mapParts f l) = ap (λ (y : AnimatedTag). and y (mapParts f l)) (fold-own (mapOwn f) none and x) in
+    rw (e, count-and (mapOwn f x (mapParts f (inside x))) (mapParts f l), map-inside f (mapParts f) refl x, count-and x l, i, h))

@@ -303,7 +303,7 @@ mapOwn f (P a) u = P a
 mapOwn f (T t x l) u = T t x u
 
 -- all parts changed, at every depth
-unfoldable pub mapParts : (Part → Part) → Tags → Tags
+abbrev pub mapParts : (Part → Part) → Tags → Tags
 mapParts f l = foldTags (mapOwn f) none and l
 
 abbrev pub resetParts : Reset → List Part
