@@ -1,29 +1,35 @@
 -- A block inside a longer text reads as it does alone, offsets moved on.
 use mathlib.Core.Path.{_≡_, refl, sym, ap, _∙_}
 use mathlib.Core.List.{List, _∷_, _++_}
+use mathlib.Core.Bool.{Bool, true, false}
 use mathlib.Core.Logic.{⊎-elim}
-use Prim.Native.Nat.{ℕ, zero, suc, _+_, _-_, _≤_, _<_}
+use Prim.Native.Nat.{ℕ, zero, suc, _+_, _-_, _≤_, _<_, min}
 use native.Mathlib.Omega.{arith}
 use native.Mathlib.Nat.{le-refl, add-zero}
-use lib.ListN.{length, getD, length-append, List·getD-append}
-use lib.Seq.{getD-append-add}
-use lib.Dec.{eqb}
+use lib.ListN.{length, getD, take, drop, length-drop, take-append-drop, List·getD-append}
+use lib.Seq.{getD-append-add, length-take-le, drop-drop}
+use lib.Dec.{leb, eqb}
 use lib.Ieee.{Float}
-use Rattle.scan.specs.Scan.{inClass, closingTo, trimStart}
+use Rattle.scan.specs.Scan.{pick, inClass, closingTo, trimStart}
 use Rattle.scan.specs.declared.Class.the-variants.{Digit, Letter, Not, Neither}
 use Rattle.scan.proofs.Laws.{le-or-lt}
 use Rattle.numeral.specs.Numeral.{F32, tooLong, number, f32At}
 use Rattle.lists.specs.Lists.{firstOf}
 use Rattle.lists.specs.declared.Found.{Found}
 use Rattle.lists.specs.declared.Found.the-variants.{Nowhere, At}
-use Rattle.tag.specs.Tag.{T, Tags, none, and, append}
+use Rattle.tag.specs.Tag.{mostDepth, T, Tags, none, and, append}
 use Rattle.tag.proofs.Tags.{count-map}
 use Rattle.plain.specs.Names.{keyAt, tKey}
 use Rattle.plain.specs.Plain.{One, no, long, kept, far, plainAt}
 use Rattle.read.specs.declared.Head.{Head}
 use Rattle.read.specs.Block.{Got, join, oneGot, paramAt, headAt, Peel, peeled, withHead, peelHead, headEnd, peel, peelTo, tOf, tagAt, walk, parse}
-use Rattle.read.specs.Moved.{movedPart, movedTag, movedTags, movedFound, moved}
-use Rattle.read.specs.Reading.{keptTags}
+use Rattle.read.specs.Moved.{movedPart, movedTag, movedTags, movedFound, moved, movedReading, innerText}
+use Rattle.read.specs.Reading.{keptTags, readGround, unlessBad, wholeText, blockOf, answer}
+use Rattle.refusal.specs.Refusal.{mostPlaces, textGround}
+use Rattle.refusal.specs.declared.Refusal.the-variants.{NoRoom}
+use Rattle.read.specs.declared.Reading.the-variants.{Read, Refused}
+use Rattle.read.specs.declared.Span.{Span}
+use Rattle.read.proofs.Parts.{SpanIn}
 use Rattle.read.proofs.MovedScan.{Window, On, either, if-lt, on, next, gap, ltb-on, eqb-on, byte, span-on, closing-on, past-on, trim-start-on}
 use Rattle.read.proofs.MovedNumbers.{movedF32, f32-on}
 use Rattle.read.proofs.MovedPlain.{movedOne, key-at-on, plain-on}
@@ -176,3 +182,43 @@ module _ (a s b : List ℕ) where
 pub kept-moved : (k : ℕ) (g : Got) → keptTags (moved k g) ≡ keptTags g
 unfolding movedTags
 kept-moved k g = count-map (movedPart k) (g .tags)
+
+-- ---- the part of a text that a call reads
+
+ground-moved : (k : ℕ) (l f : Found) (n places : ℕ) → readGround (movedFound k l) (movedFound k f) n places ≡ movedReading k (readGround l f n places)
+unfolding readGround
+ground-moved k (At p) f n places = refl
+ground-moved k Nowhere (At p) n places = refl
+ground-moved k Nowhere Nowhere n places = go (leb n (min places mostPlaces))
+  where
+    go : (b : Bool) → pick b (Read n) (Refused (NoRoom n)) ≡ movedReading k (pick b (Read n) (Refused (NoRoom n)))
+    go true = refl
+    go false = refl
+
+-- The block, and the answer, are those of that part alone, offsets moved on: for the second call of what is left of the text less blanks and braces
+-- (`braces-in` says that it lies inside). Grounds 1 and 2 look at the text given.
+module _ (s : List ℕ) (x : Span) (inside : SpanIn s x) where
+  abbrev inner : List ℕ
+  inner = innerText s x
+
+  pub block-inside : blockOf s x ≡ moved (x .from) (blockOf inner (wholeText inner))
+  block-inside =
+      let n = x .to - x .from in
+      let o = inside .order in
+      let h = inside .high in
+      let a = take (x .from) s in
+      let b = drop (x .to) s in
+      let la : length a ≡ x .from = length-take-le (x .from) s (omega arith) in
+      let li : length inner ≡ n = length-take-le n (drop (x .from) s) (omega (arith, length-drop (x .from) s)) in
+      let z : x .from + n ≡ x .to = omega arith in
+      let c : drop (x .to) s ≡ drop n (drop (x .from) s) = ap (λ (m : ℕ). drop m s) (sym z) ∙ sym (drop-drop n (x .from) s) in
+      let d : inner ++ b ≡ drop (x .from) s = ap (λ (l : List ℕ). inner ++ l) c ∙ take-append-drop n (drop (x .from) s) in
+      let e : a ++ (inner ++ b) ≡ s = rw d (take-append-drop (x .from) s) in
+      let w : length a + length inner ≡ x .to = rw (la, li) z in
+      rw (e, w, la) at (block-moved a inner b mostDepth)
+
+  pub answer-inside : (places : ℕ) → let g = blockOf inner (wholeText inner) in answer s x places ≡ unlessBad (textGround s) (movedReading (x .from) (readGround (g .long) (g .far) (keptTags g) places))
+  unfolding answer
+  answer-inside places =
+      let g = blockOf inner (wholeText inner) in
+      rw (block-inside, kept-moved (x .from) g, ground-moved (x .from) (g .long) (g .far) (keptTags g) places)

@@ -1,7 +1,14 @@
 -- 01, offsets count from the text given: what a block gives that stands k bytes further on in a longer text.
-use Prim.Native.Nat.{ℕ, _+_}
+use mathlib.Core.List.{List}
+use Prim.Native.Nat.{ℕ, _+_, _-_}
 use lib.Dec.{eqb}
+use lib.ListN.{take, drop}
 use Rattle.scan.specs.Scan.{pick}
+use Rattle.refusal.specs.declared.Refusal.{Refusal}
+use Rattle.refusal.specs.declared.Refusal.the-variants.{TextTooLong, NotAscii, NumeralTooLong, FadeTooFar, TableMalformed, TimeOutOfRange, ScaleTooLarge, NameBeyondText, NoRoom}
+use Rattle.read.specs.declared.Reading.{Reading}
+use Rattle.read.specs.declared.Reading.the-variants.{Read, Refused}
+use Rattle.read.specs.declared.Span.{Span}
 use Rattle.lists.specs.declared.Found.{Found}
 use Rattle.lists.specs.declared.Found.the-variants.{Nowhere, At}
 use Rattle.tag.specs.Tag.{Part, AnimatedTag, Tags, none, and, foldTag, mapOwn, mapParts}
@@ -25,3 +32,23 @@ movedFound k (At p) = At (k + p)
 -- all that a block gives
 abbrev pub moved : ℕ → Got → Got
 moved k g = record { tags = movedTags k (g .tags); long = movedFound k (g .long); far = movedFound k (g .far) }
+
+-- the answer of a reading: places in the text move on, counts do not
+abbrev pub movedRefusal : ℕ → Refusal → Refusal
+movedRefusal k TextTooLong = TextTooLong
+movedRefusal k (NotAscii p) = NotAscii (k + p)
+movedRefusal k (NumeralTooLong p) = NumeralTooLong (k + p)
+movedRefusal k (FadeTooFar p) = FadeTooFar (k + p)
+movedRefusal k (TableMalformed p) = TableMalformed p
+movedRefusal k TimeOutOfRange = TimeOutOfRange
+movedRefusal k ScaleTooLarge = ScaleTooLarge
+movedRefusal k NameBeyondText = NameBeyondText
+movedRefusal k (NoRoom n) = NoRoom n
+
+abbrev pub movedReading : ℕ → Reading → Reading
+movedReading k (Read n) = Read n
+movedReading k (Refused r) = Refused (movedRefusal k r)
+
+-- the part x of a text, as a text of its own
+abbrev pub innerText : List ℕ → Span → List ℕ
+innerText s x = take (x .to - x .from) (drop (x .from) s)
