@@ -5,7 +5,8 @@ use mathlib.Core.List.{List}
 use Prim.Native.Nat.{ℕ, _+_, _*_, _%_, _^_}
 use Rattle.refusal.specs.Refusal.{numberOf, placeOf}
 use Rattle.refusal.specs.declared.Refusal.{Refusal}
-use Rattle.read.specs.Reading.{answer, after, placesOf, groundNumber, groundPlace, recordsRead}
+use Rattle.read.specs.Reading.{answer, after, groundNumber, groundPlace, recordsRead}
+use Rattle.tag.specs.Table.{placesOf}
 use Rattle.read.specs.declared.Reading.{Reading}
 use Rattle.read.specs.declared.Span.{Span}
 use Rattle.refusal.specs.declared.Checked.{Checked}

@@ -20,12 +20,12 @@ use Rattle.colour.specs.declared.Colour.the-variants.{Rgb}
 use Rattle.tag.specs.Tag as Tag
 use Rattle.tag.specs.Tag.{AnimatedTag, Be, Pbo}
 use Rattle.tag.specs.declared.Record.{Record}
-use Rattle.tag.specs.Table.{rec, records, bits, oneFloat, twoFloats, fourFloats, oneNumber, partRecord, rgbRecord, flagWord, kindWord}
+use Rattle.tag.specs.Table.{rec, head, records, bits, oneFloat, twoFloats, fourFloats, oneNumber, partRecord, rgbRecord, flagWord, kindWord}
 use Rattle.plain.specs.declared.Kept.{Kept}
 use Rattle.plain.specs.declared.Kept.the-variants as Kept
 use Rattle.plain.specs.Names.{Shape, float, pair, ranged, flag, alpha, colour, clip, beat, fad, fade, move, edge, baseline, weight, reset, unknown, names, lookup, keyAt}
 use Rattle.plain.specs.Plain.{kept, far, part, mapF32, mapAlpha, mapColour, floatOf, f32s, firstLong, clipOf, beatOf, nth, shaped, isFn, isNamedReset, plainAt}
-use Rattle.plain.specs.Coded.{recordOf, keptOf, kindOf, codeOf, keepWord, beatWord, edgeWord, baselineWord, longOr, nthWord, alphaTag, colourTag, clipTag, drawingTag, numbersAt, shapedTag}
+use Rattle.plain.specs.Coded.{keptOf, kindOf, codeOf, keepWord, beatWord, edgeWord, baselineWord, longOr, nthWord, alphaTag, colourTag, clipTag, drawingTag, numbersAt, shapedTag}
 use Rattle.plain.proofs.Numbers.{Back, f32-back, i32-small}
 use Rattle.plain.proofs.Commas.{Floats, floats-read, floats-length, ints-read}
 use Rattle.plain.proofs.Every.{Every, gather, find}
@@ -40,15 +40,15 @@ abbrev black : Tag.Rgb
 black = record { red = 0; green = 0; blue = 0 }
 
 abbrev Sound : Shape → Type 0
-Sound (float f) = (x : Float) → records (f x) ≡ oneFloat (kindOf (f plusZero)) x
-Sound (pair f) = (x y : Float) → records (f x y) ≡ twoFloats (kindOf (f plusZero plusZero)) x y
-Sound (ranged a b f) = (b < 2147483648) × ((n : ℕ) → records (f n) ≡ oneNumber (kindOf (f 0)) n)
-Sound (flag f) = (b : Bool) → records (f b) ≡ oneNumber (kindOf (f false)) (flagWord b)
-Sound (alpha f) = (n : ℕ) → records (f n) ≡ oneNumber (kindOf (f 0)) n
-Sound (colour f) = (c : Tag.Rgb) → records (f c) ≡ rgbRecord (kindOf (f black)) c
+Sound (float f) = (x : Float) → records (f x) ≡ oneFloat (kindOf (f plusZero)) x ∷ []
+Sound (pair f) = (x y : Float) → records (f x y) ≡ twoFloats (kindOf (f plusZero plusZero)) x y ∷ []
+Sound (ranged a b f) = (b < 2147483648) × ((n : ℕ) → records (f n) ≡ oneNumber (kindOf (f 0)) n ∷ [])
+Sound (flag f) = (b : Bool) → records (f b) ≡ oneNumber (kindOf (f false)) (flagWord b) ∷ []
+Sound (alpha f) = (n : ℕ) → records (f n) ≡ oneNumber (kindOf (f 0)) n ∷ []
+Sound (colour f) = (c : Tag.Rgb) → records (f c) ≡ rgbRecord (kindOf (f black)) c ∷ []
 Sound (clip f g) =
-    ((x y z w : Float) → records (f x y z w) ≡ fourFloats (kindOf (f plusZero plusZero plusZero plusZero)) x y z w)
-    × ((x : Tag.Part) → records (g x) ≡ partRecord (kindOf (g noPart)) x)
+    ((x y z w : Float) → records (f x y z w) ≡ fourFloats (kindOf (f plusZero plusZero plusZero plusZero)) x y z w ∷ [])
+    × ((x : Tag.Part) → records (g x) ≡ partRecord (kindOf (g noPart)) x ∷ [])
 Sound (beat k) = Unit
 Sound fad = Unit
 Sound fade = Unit
@@ -78,19 +78,19 @@ module _ (f : Float → AnimatedTag) (g : ℕ → Record) (h : (x : Float) → B
   gives-f32 (tooLong p) b = late p
   gives-f32 (number x) b = tag (h x b)
 
-gives-alpha : (f : ℕ → AnimatedTag) (k : ℕ) → ((n : ℕ) → records (f n) ≡ oneNumber k n) → (y : Numeral) → Gives (alphaTag k y) (mapAlpha f y)
+gives-alpha : (f : ℕ → AnimatedTag) (k : ℕ) → ((n : ℕ) → records (f n) ≡ oneNumber k n ∷ []) → (y : Numeral) → Gives (alphaTag k y) (mapAlpha f y)
 gives-alpha f k h No = nothing
 gives-alpha f k h (TooLong p) = nothing
 gives-alpha f k h (Word n) = tag (h n)
 
-gives-colour : (f : Tag.Rgb → AnimatedTag) (k : ℕ) → ((c : Tag.Rgb) → records (f c) ≡ rgbRecord k c) → (y : C.Colour) → Gives (colourTag k y) (mapColour f y)
+gives-colour : (f : Tag.Rgb → AnimatedTag) (k : ℕ) → ((c : Tag.Rgb) → records (f c) ≡ rgbRecord k c ∷ []) → (y : C.Colour) → Gives (colourTag k y) (mapColour f y)
 gives-colour f k h C.Colour.No = nothing
 gives-colour f k h (Rgb r g b) = tag (h _)
 
 -- ---- \clip, \iclip
 
 module _ (f : Float → Float → Float → Float → AnimatedTag) (g : Tag.Part → AnimatedTag) (k d : ℕ)
-    (h : (x y z w : Float) → records (f x y z w) ≡ fourFloats k x y z w) (i : (x : Tag.Part) → records (g x) ≡ partRecord d x)
+    (h : (x y z w : Float) → records (f x y z w) ≡ fourFloats k x y z w ∷ []) (i : (x : Tag.Part) → records (g x) ≡ partRecord d x ∷ [])
     (s : List ℕ) (p q : ℕ) where
   abbrev n : Numbers
   n = numbersAt false s p q
@@ -144,8 +144,8 @@ module _ (s : List ℕ) (i m p q : ℕ) where
       let k = keyAt s i m in
       picked Single (isFn s i m) _ _ refl (picked Single (isNamedReset s i m p q) _ _ refl (gives-single (gives (lookup k names) (find Sound tt k names sound) s p q)))
 
-  pub kept-single : (x : AnimatedTag) → plainAt s i m p q ≡ kept x → records x ≡ recordOf x ∷ []
+  pub kept-single : (x : AnimatedTag) → plainAt s i m p q ≡ kept x → records x ≡ head x ∷ []
   kept-single x e = subst Single e plain-single
 
-  pub far-single : (x : AnimatedTag) → plainAt s i m p q ≡ far x → records x ≡ recordOf x ∷ []
+  pub far-single : (x : AnimatedTag) → plainAt s i m p q ≡ far x → records x ≡ head x ∷ []
   far-single x e = subst Single e plain-single

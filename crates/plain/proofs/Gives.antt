@@ -1,5 +1,5 @@
 -- What the code keeps, against what a tag gives: the tag's one record.
-use mathlib.Core.Path.{_≡_, refl}
+use mathlib.Core.Path.{_≡_, refl, ap, _∙_}
 use mathlib.Core.Bool.{Bool, true, false}
 use mathlib.Core.List.{List, [], _∷_}
 use Prim.Native.Nat.{ℕ, suc, _-_, _≤_, _<_}
@@ -18,11 +18,12 @@ use Rattle.lists.specs.declared.Numbers.{Numbers}
 use Rattle.lists.specs.declared.Found.{Found}
 use Rattle.tag.specs.declared.Record.{Record}
 use Rattle.tag.specs.Tag.{AnimatedTag, R, plain, named}
-use Rattle.tag.specs.Table.{rec, records, twoFloats, oneNumber, flagWord}
+use Rattle.tag.specs.Table.{rec, head, records, twoFloats, oneNumber, flagWord}
+use Rattle.tag.proofs.Tags.{records-own}
 use Rattle.plain.specs.declared.Kept.{Kept}
 use Rattle.plain.specs.declared.Kept.the-variants as Kept
 use Rattle.plain.specs.Plain.{One, no, long, kept, far, part, f32s, firstLong, pairOf, moveOf, fadOf, fadeOf, rangedOf, weightOf, flagOf, resetOf, intOf, nthInt, isFar}
-use Rattle.plain.specs.Coded.{recordOf, keptOf, longOr, pairTag, moveTag, fadTag, fadeTag, rangedTag, weightTag, flagTag, resetTag}
+use Rattle.plain.specs.Coded.{keptOf, longOr, pairTag, moveTag, fadTag, fadeTag, rangedTag, weightTag, flagTag, resetTag}
 use Rattle.plain.proofs.Numbers.{Small, high, clip-word, byte-word, far-word}
 use Rattle.plain.proofs.Commas.{Floats, Ints}
 
@@ -33,24 +34,28 @@ pub data Gives : Kept → One → Type 0 where
   tag : {r : Record} {x : AnimatedTag} → records x ≡ r ∷ [] → Gives (Kept.Tag r) (kept x)
   away : {r : Record} {x : AnimatedTag} → records x ≡ r ∷ [] → Gives (Kept.Far r) (far x)
 
+-- where there is one record it is the tag's own
+own-record : (x : AnimatedTag) {r : Record} → records x ≡ r ∷ [] → r ≡ head x
+own-record x e = cc (records-own x)
+
 pub gives-kept : {k : Kept} {o : One} → Gives k o → k ≡ keptOf o
 gives-kept nothing = refl
 gives-kept (late p) = refl
-gives-kept (tag e) = rw e
-gives-kept (away e) = rw e
+gives-kept (tag {x = x} e) = ap Kept.Tag (own-record x e)
+gives-kept (away {x = x} e) = ap Kept.Far (own-record x e)
 
 -- what is kept has one record
 abbrev pub Single : One → Type 0
 Single no = Unit
 Single (long p) = Unit
-Single (kept x) = records x ≡ recordOf x ∷ []
-Single (far x) = records x ≡ recordOf x ∷ []
+Single (kept x) = records x ≡ head x ∷ []
+Single (far x) = records x ≡ head x ∷ []
 
 pub gives-single : {k : Kept} {o : One} → Gives k o → Single o
 gives-single nothing = tt
 gives-single (late p) = tt
-gives-single (tag e) = rw e
-gives-single (away e) = rw e
+gives-single (tag {x = x} e) = e ∙ ap (λ (r : Record). r ∷ []) (own-record x e)
+gives-single (away {x = x} e) = e ∙ ap (λ (r : Record). r ∷ []) (own-record x e)
 
 pub gives-pick : (b : Bool) {k j : Kept} {o u : One} → Gives k o → Gives j u → Gives (pick b k j) (pick b o u)
 gives-pick true g h = g
@@ -76,7 +81,7 @@ module _ (k : Kept) (o : One) where
   gives-long s (x ∷ l) g = long-step (f32At s (x .from) (x .to)) (f32s s l) (Lists.firstLong (items false s l)) (gives-long s l g)
 
 module _ (n : Numbers) where
-  pub gives-pair : (f : Float → Float → AnimatedTag) (k : ℕ) → ((x y : Float) → records (f x y) ≡ twoFloats k x y) → {b : Bool} {l : List Float} → Floats n b l → Gives (pairTag k (n .all) (n .count) (n .words)) (pairOf f (pick b l []))
+  pub gives-pair : (f : Float → Float → AnimatedTag) (k : ℕ) → ((x y : Float) → records (f x y) ≡ twoFloats k x y ∷ []) → {b : Bool} {l : List Float} → Floats n b l → Gives (pairTag k (n .all) (n .count) (n .words)) (pairOf f (pick b l []))
   unfolding pairTag pairOf
   gives-pair f k h {b = false} r = rw (r .all) nothing
   gives-pair f k h {b = true} {l} r = rw (r .all, r .count, r .words 0 (lit< tt), r .words 1 (lit< tt)) (gives-pick (eqb (length l) 2) (tag (h _ _)) nothing)
@@ -121,7 +126,7 @@ module _ (n : Numbers) where
 
 -- ---- one whole number
 
-module _ (f : ℕ → AnimatedTag) (k : ℕ) (h : (n : ℕ) → records (f n) ≡ oneNumber k n) where
+module _ (f : ℕ → AnimatedTag) (k : ℕ) (h : (n : ℕ) → records (f n) ≡ oneNumber k n ∷ []) where
   pub gives-ranged : (a b : ℕ) → b < 2147483648 → (y : I32) → Small (intOf y) → Gives (rangedTag k a b (wordOfI32 y)) (rangedOf a b f y)
   unfolding rangedTag rangedOf
   gives-ranged a b u I32.none z = nothing
@@ -138,7 +143,7 @@ gives-weight (whole (negsuc n)) z =
     let h : 2147483648 ≤ w = high n z in
     rw (ne-eqb w 0 (λ e. omega arith), ne-eqb w 1 (λ e. omega arith), lt-leb w 900 (omega arith)) (gives-none (leb 100 w))
 
-pub gives-flag : (f : Bool → AnimatedTag) (k : ℕ) → ((b : Bool) → records (f b) ≡ oneNumber k (flagWord b)) → (s : List ℕ) (p q : ℕ) → Gives (flagTag k s p q) (flagOf f s p q)
+pub gives-flag : (f : Bool → AnimatedTag) (k : ℕ) → ((b : Bool) → records (f b) ≡ oneNumber k (flagWord b) ∷ []) → (s : List ℕ) (p q : ℕ) → Gives (flagTag k s p q) (flagOf f s p q)
 unfolding flagTag flagOf
 gives-flag f k h s p q =
     let a = trimStart s p q in

@@ -1,5 +1,5 @@
 -- The words of a plain tag's record, from the words of its numbers: what the code works out, proved to be the record of the tag.
-use mathlib.Core.List.{List, [], _∷_}
+use mathlib.Core.List.{List}
 use mathlib.Core.Bool.{Bool, true, false}
 use Prim.Native.Nat.{ℕ, _+_, _-_, min}
 use lib.Dec.{leb, ltb, eqb}
@@ -20,7 +20,7 @@ use Rattle.colour.specs.declared.Colour.the-variants.{Rgb}
 use Rattle.tag.specs.declared.Record.{Record}
 use Rattle.tag.specs.Tag as Tag
 use Rattle.tag.specs.Tag.{AnimatedTag}
-use Rattle.tag.specs.Table.{rec, records, kindWord}
+use Rattle.tag.specs.Table.{rec, head, kindWord}
 use Rattle.plain.specs.declared.Shape as Code
 use Rattle.plain.specs.declared.Shape.the-variants.{Float, Pair, Ranged, Flag, Alpha, Colour, Clip, Beat, Fad, Fade, Move, Edge, Baseline, Weight, Reset, Unknown}
 use Rattle.plain.specs.declared.Kept.{Kept}
@@ -29,24 +29,16 @@ use Rattle.plain.specs.declared.Part as Words
 use Rattle.plain.specs.Names as Names
 use Rattle.plain.specs.Plain.{One, no, long, kept, far, part}
 
--- the first record of a tag
-abbrev pub firstOf : List Record → Record
-firstOf [] = rec 0 0 0 0 0 0 0 0
-firstOf (r ∷ rs) = r
-
-abbrev pub recordOf : AnimatedTag → Record
-recordOf x = firstOf (records x)
-
 -- what a tag gives, as the code has it
 abbrev pub keptOf : One → Kept
 keptOf no = Kept.No
 keptOf (long p) = Kept.Long p
-keptOf (kept x) = Kept.Tag (recordOf x)
-keptOf (far x) = Kept.Far (recordOf x)
+keptOf (kept x) = Kept.Tag (head x)
+keptOf (far x) = Kept.Far (head x)
 
 -- a shape as the code has it: with the kind of the records that it makes
 abbrev pub kindOf : AnimatedTag → ℕ
-kindOf x = recordOf x .kind
+kindOf x = head x .kind
 
 unfoldable pub codeOf : Names.Shape → Code.Shape
 codeOf (Names.float f) = Float (kindOf (f plusZero))

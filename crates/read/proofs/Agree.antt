@@ -15,16 +15,21 @@ use Rattle.lists.specs.declared.Found.the-variants.{Nowhere, At}
 use Rattle.refusal.specs.Refusal.{numberOf, mostBytes, mostPlaces}
 use Rattle.refusal.specs.declared.Refusal.{Refusal}
 use Rattle.refusal.specs.declared.Refusal.the-variants.{TextTooLong, NotAscii, NoRoom}
-use Rattle.tag.specs.Table.{width, encode, tableWords}
+use Rattle.tag.specs.Table.{encode, tableWords}
 use Rattle.tag.proofs.Table.{laid-full, length-words}
+use Rattle.tag.proofs.Tags.{count-length}
+use Rattle.tag.proofs.Decoding.{sound-ranges, sound-nested, words-formed, words-back}
 use Rattle.read.specs.declared.Reading.{Reading}
 use Rattle.read.specs.declared.Reading.the-variants.{Read, Refused}
 use Rattle.refusal.specs.declared.Checked.{Checked}
 use Rattle.refusal.specs.declared.Checked.the-variants.{Good, Bad}
 use Rattle.read.specs.declared.Span.{Span}
-use Rattle.read.specs.Reading.{readGround, unlessBad, blockOf, keptTags, placesOf, answer, after}
+use Rattle.read.specs.Reading.{readGround, unlessBad, blockOf, keptTags, answer, after}
+use Rattle.tag.specs.Table.{placesOf}
 use Rattle.refusal.specs.Refusal.{textGround}
-use Rattle.read.specs.Agreement.{Readable, Agreement}
+use Rattle.read.specs.Agreement.{Readable, written, Holds, Agreement}
+use Rattle.read.proofs.Parts.{SpanIn}
+use Rattle.read.proofs.Ranges.{block-sound}
 
 -- a reading is no refusal
 read-not-refused : (n : ℕ) (r : Refusal) → Read n ≡ Refused r → ⊥
@@ -115,15 +120,40 @@ module _ (s : List ℕ) (x : Span) where
   unfolding readGround
   readable p h = is-out p ∙ rw (h .text, h .numerals, h .fades)
 
-  -- the records that a table holds after a reading
-  holds : (t : List ℕ) (n : ℕ) → answer s x (placesOf t) ≡ Read n → (n ≡ kept) × (take (width * n) (after s x t) ≡ tableWords (encode (blockOf s x .tags)))
+  -- what the records that a reading wrote are
+  wrote : (t : List ℕ) (n : ℕ) → answer s x (placesOf t) ≡ Read n → (n ≡ kept) × (written n (after s x t) ≡ tableWords (encode (blockOf s x .tags)))
   unfolding after
-  holds t n e =
+  wrote t n e =
       let rs = encode (blockOf s x .tags) in
+      let c : kept ≡ length rs = count-length (blockOf s x .tags) in
       let h = read-out (textGround s) (blockOf s x .long) (blockOf s x .far) kept n (placesOf t) (sym (is-out (placesOf t)) ∙ e) in
       let room : 8 * length (encode (blockOf s x .tags)) ≤ length t = omega (arith, h .1) in
-      let m : 8 * n ≡ length (tableWords rs) = ap (λ (k : ℕ). 8 * k) (h .0) ∙ sym (length-words rs) in
+      let m : 8 * n ≡ length (tableWords rs) = ap (λ (k : ℕ). 8 * k) (h .0 ∙ c) ∙ sym (length-words rs) in
       (h .0, rw (e, laid-full rs t room, m) (take-at (tableWords rs) (drop (8 * length rs) t) (length (tableWords rs)) refl))
+
+  -- a reading that succeeds has no ground 1, 2 or 4
+  read-good : (p n : ℕ) → answer s x p ≡ Read n → (textGround s ≡ Good) × (blockOf s x .far ≡ Nowhere) × (kept ≤ mostPlaces)
+  unfolding answer readGround
+  read-good p n e = go (textGround s) (blockOf s x .long) (blockOf s x .far) refl refl e
+    where
+      go : (c : Checked) (l f : Found) → textGround s ≡ c → blockOf s x .far ≡ f → out c l f kept p ≡ Read n → (textGround s ≡ Good) × (blockOf s x .far ≡ Nowhere) × (kept ≤ mostPlaces)
+      go (Bad b) l f u v e = absurd (refused-not-read n b e)
+      go Good (At a) f u v e = absurd (let z : _≡_ {A = ℕ} 0 1 = cc in omega arith)
+      go Good Nowhere (At a) u v e = absurd (let z : _≡_ {A = ℕ} 0 1 = cc in omega arith)
+      go Good Nowhere Nowhere u v e = (u, v, omega (arith, read-out Good Nowhere Nowhere kept n p e .1))
+
+  -- 01: a table holds a block if the reading into it succeeded; `whole-in` and `braces-in` say that x lies inside the text for both calls
+  pub holds : SpanIn s x → (t : List ℕ) (n : ℕ) → answer s x (placesOf t) ≡ Read n → Holds (written n (after s x t)) (blockOf s x .tags)
+  holds inside t n e =
+      let l = blockOf s x .tags in
+      let g = read-good (placesOf t) n e in
+      let h = block-sound s x inside (g .0) (g .1) in
+      let w = wrote t n e .1 in
+      record {
+        words = w;
+        formed = rw w (words-formed (encode l) (omega (arith, g .2, count-length l)) (sound-ranges h) (sound-nested h));
+        tags = rw w (words-back h);
+      }
 
 pub agreement : (s : List ℕ) (x : Span) (t u : List ℕ) → Agreement s x t u
 agreement s x t u =
@@ -135,8 +165,8 @@ agreement s x t u =
       lacks = λ h k. readable s x (placesOf t) h ∙ rw (lt-leb (kept s x) (min (placesOf t) mostPlaces) k);
       fits = λ h k. readable s x (placesOf t) h ∙ rw (le-leb (kept s x) (min (placesOf t) mostPlaces) k);
       same = λ n m e f.
-          let a = holds s x t n e in
-          let b = holds s x u m f in
+          let a = wrote s x t n e in
+          let b = wrote s x u m f in
           let z : n ≡ m = a .0 ∙ sym (b .0) in
           (z, a .1 ∙ sym (rw z (b .1)));
     }

@@ -16,7 +16,8 @@ use Rattle.read.specs.declared.Reading.{Reading}
 use Rattle.read.specs.declared.Reading.the-variants.{Read, Refused}
 use Rattle.refusal.specs.declared.Checked.the-variants.{Good, Bad}
 use Rattle.read.specs.declared.Span.{Span}
-use Rattle.read.specs.Reading.{Told, keptTags, placesOf, readGround, blockOf, answer, after, Answered}
+use Rattle.read.specs.Reading.{Told, keptTags, readGround, blockOf, answer, after, Answered}
+use Rattle.tag.specs.Table.{placesOf}
 use Rattle.refusal.specs.Refusal.{textGround}
 
 -- a text with no ground 1 is short

@@ -23,16 +23,17 @@ use Rattle.survey.proofs.Long.{Ends}
 use Rattle.colour.specs.Colour.{isAmpersand, trimmed, ampersands, digits, alphaAt, colourAt, cap, rgb}
 use Rattle.tag.specs.Tag as Tag
 use Rattle.tag.specs.Tag.{AnimatedTag, KaraokeKind, Fill, Sweep, Outline, Fad, Fade, Be, Pbo, B, Fn, R, named}
-use Rattle.tag.specs.Table.{records}
-use Rattle.tag.specs.Range.{range, rows, joinFits, inRange}
+use Rattle.tag.specs.Decode.{decoders, decodeOne}
+use Rattle.tag.specs.Range.{range, rows, inRange}
 use Rattle.plain.specs.Names.{Shape, float, pair, ranged, flag, alpha, colour, clip, beat, fad, fade, move, edge, baseline, weight, reset, unknown, names, lookup, keyAt}
 use Rattle.plain.specs.Plain.{One, no, long, kept, far, part, mapF32, mapAlpha, mapColour, allFloats, floats, nth, nthInt, firstLong, pairOf, moveOf, notBelowZero, byteOf, fadOf, isFar, fadeOf, rangedOf, weightOf, flagOf, clipOf, resetOf, beatOf, shaped, isFn, isNamedReset, plainAt}
 use Rattle.plain.specs.Coded.{kindOf}
 use Rattle.plain.proofs.Numbers.{Small}
 use Rattle.plain.proofs.Every.{find}
 use Rattle.scan.proofs.Bounds.{tested, trim-end-high}
-use Rattle.read.proofs.Inside.{All, all, more, F32In, no-numeral, too-long, a-number, f32-in}
-use Rattle.read.proofs.Words.{Fits, float-fits, byte-fits, near-fits, cut-fits, round-fits, beat-fits, edge-fits, fad-fits, part-fits, part-full, f32s-in, floats-bounded, ints-small, Near, ints-near, Sound, Ranged, every}
+use Rattle.tag.specs.WellFormed.{All, all, more}
+use Rattle.read.proofs.Inside.{F32In, no-numeral, too-long, a-number, f32-in}
+use Rattle.read.proofs.Words.{Fits, float-fits, byte-fits, near-fits, cut-fits, round-fits, beat-fits, edge-fits, fad-fits, near-back, cut-back, round-back, part-fits, part-full, f32s-in, floats-bounded, ints-small, Near, ints-near, Sound, Ranged, every}
 
 -- what a plain tag gives, its parameter from p to q: a numeral that is too long stands there, what is kept is in range, and where either is not so the text is not plain
 pub data Fine (s : List ℕ) (top p q : ℕ) : One → Type 0 where
@@ -62,18 +63,18 @@ module _ (s : List ℕ) (top p q : ℕ) (order : p ≤ q) (short : q ≤ mostByt
   fine-f32 f h (a-number b) = tag (h _ b)
 
   fine-beat : (k : KaraokeKind) (x : Float) → Bounded x → Sound (beatOf k x)
-  unfolding records inRange rows joinFits
-  fine-beat Fill x b = rw (beat-fits b)
-  fine-beat Sweep x b = rw (beat-fits b)
-  fine-beat Outline x b = rw (beat-fits b)
+  unfolding inRange rows decodeOne decoders
+  fine-beat Fill x b = (rw (beat-fits b), refl, refl)
+  fine-beat Sweep x b = (rw (beat-fits b), refl, refl)
+  fine-beat Outline x b = (rw (beat-fits b), refl, refl)
 
   fine-edge : (x : Float) → Bounded x → Sound (Be (roundByte x))
-  unfolding records inRange rows joinFits
-  fine-edge x b = rw (edge-fits x)
+  unfolding inRange rows decodeOne decoders
+  fine-edge x b = (rw (edge-fits x), refl, refl)
 
   fine-baseline : (x : Float) → Bounded x → Sound (Pbo (roundAway x))
-  unfolding records inRange rows joinFits
-  fine-baseline x b = rw (round-fits b)
+  unfolding inRange rows decodeOne decoders
+  fine-baseline x b = (rw (round-fits b), rw (round-back b), refl)
 
   fine-ranged : (a b : ℕ) (f : ℕ → AnimatedTag) → Ranged (ranged a b f) → (y : I32) → Good (rangedOf a b f y)
   unfolding rangedOf
@@ -87,13 +88,13 @@ module _ (s : List ℕ) (top p q : ℕ) (order : p ≤ q) (short : q ≤ mostByt
       go false u h = nothing
 
   fine-weight : (y : I32) → Good (weightOf y)
-  unfolding weightOf records inRange rows joinFits
+  unfolding weightOf inRange rows decodeOne decoders
   fine-weight I32.none = nothing
   fine-weight (whole (negsuc n)) = nothing
-  fine-weight (whole (pos n)) = picked Good (eqb n 0) _ _ (tag refl) (picked Good (eqb n 1) _ _ (tag refl) (go (leb 100 n) (leb n 900) refl refl))
+  fine-weight (whole (pos n)) = picked Good (eqb n 0) _ _ (tag (refl, refl, refl)) (picked Good (eqb n 1) _ _ (tag (refl, refl, refl)) (go (leb 100 n) (leb n 900) refl refl))
     where
       go : (t u : Bool) → leb 100 n ≡ t → leb n 900 ≡ u → Good (pick t (pick u (kept (B n)) no) no)
-      go true true d e = tag {x = B n} (rw (d, e, ne-eqb n 0 (λ z. omega (arith, leb-true 100 n d))))
+      go true true d e = tag {x = B n} (rw (d, e, ne-eqb n 0 (λ z. omega (arith, leb-true 100 n d))), refl, refl)
       go true false d e = nothing
       go false u d e = nothing
 
@@ -144,15 +145,15 @@ module _ (s : List ℕ) (top p q : ℕ) (order : p ≤ q) (short : q ≤ mostByt
 
   fine-pair : (f : Float → Float → AnimatedTag) → Ranged (pair f) → (l : List Float) → ((n : ℕ) → Bounded (nth l n)) → Good (pairOf f l)
   unfolding pairOf
-  fine-pair f h l b = picked Good (eqb (length l) 2) _ _ (tag (h _ _ (float-fits (b 0)) (float-fits (b 1)))) nothing
+  fine-pair f h l b = picked Good (eqb (length l) 2) _ _ (tag (h _ _ (b 0) (b 1))) nothing
 
   fine-move : (l : List Float) → ((n : ℕ) → Bounded (nth l n)) → Good (moveOf l)
-  unfolding moveOf records inRange rows joinFits
+  unfolding moveOf inRange rows decodeOne decoders
   fine-move l b =
       picked Good (eqb (length l) 4) _ _
-      (tag (rw (float-fits (b 0), float-fits (b 1), float-fits (b 2), float-fits (b 3))))
+      (tag (rw (float-fits (b 0), float-fits (b 1), float-fits (b 2), float-fits (b 3)), rw (b 0 .back, b 1 .back, b 2 .back, b 3 .back), refl))
       (picked Good (eqb (length l) 6) _ _
-      (tag (rw (float-fits (b 0), float-fits (b 1), float-fits (b 2), float-fits (b 3), cut-fits (b 4), cut-fits (b 5))))
+      (tag (rw (float-fits (b 0), float-fits (b 1), float-fits (b 2), float-fits (b 3), cut-fits (b 4), cut-fits (b 5)), rw (b 0 .back, b 1 .back, b 2 .back, b 3 .back, cut-back (b 4), cut-back (b 5)), refl))
       nothing)
 
   fine-clip : (f : Float → Float → Float → Float → AnimatedTag) (g : Tag.Part → AnimatedTag) → Ranged (clip f g) → {l : List F32} → All (F32In s top p q) l → ((n : ℕ) → Bounded (nth (floats l) n)) → Good (clipOf f g l p q)
@@ -160,19 +161,19 @@ module _ (s : List ℕ) (top p q : ℕ) (order : p ≤ q) (short : q ≤ mostByt
   fine-clip f g h {l} k b =
       let drawing : Good (kept (g (part p q))) = tag (h .1 (part p q) (part-fits p q short)) in
       picked Good (eqb (length l) 4) _ _
-      (fine-long (picked Good (allFloats l) _ _ (tag (h .0 _ _ _ _ (float-fits (b 0)) (float-fits (b 1)) (float-fits (b 2)) (float-fits (b 3)))) drawing) k)
+      (fine-long (picked Good (allFloats l) _ _ (tag (h .0 _ _ _ _ (b 0) (b 1) (b 2) (b 3))) drawing) k)
       drawing
 
   fine-fad : (l : List ℤ) → ((n : ℕ) → Small (nthInt l n)) → Good (fadOf l)
-  unfolding fadOf records inRange rows joinFits
+  unfolding fadOf inRange rows decodeOne decoders
   fine-fad l b =
       picked Good (leb 2 (length l)) _ _
-      (tag {x = Fad (notBelowZero (nthInt l 0)) (notBelowZero (nthInt l 1))} (rw (fad-fits (nthInt l 0) (b 0), fad-fits (nthInt l 1) (b 1))))
+      (tag {x = Fad (notBelowZero (nthInt l 0)) (notBelowZero (nthInt l 1))} (rw (fad-fits (nthInt l 0) (b 0), fad-fits (nthInt l 1) (b 1)), refl, refl))
       nothing
 
   -- one far time makes it far; else all four are near
   fine-fade : (l : List ℤ) → ((n : ℕ) → Near s p q (nthInt l n)) → Good (fadeOf l)
-  unfolding fadeOf records inRange rows joinFits
+  unfolding fadeOf inRange rows decodeOne decoders
   fine-fade l near =
       picked Good (leb 7 (length l)) _ _
       (go (isFar (nthInt l 3)) (isFar (nthInt l 4)) (isFar (nthInt l 5)) (isFar (nthInt l 6)) refl refl refl refl)
@@ -190,38 +191,38 @@ module _ (s : List ℕ) (top p q : ℕ) (order : p ≤ q) (short : q ≤ mostByt
       go false false true d e f g h = away (lit< tt) (near 5 g top)
       go false false false true e f g h = away (lit< tt) (near 6 h top)
       go false false false false e f g h =
-          tag {x = x} (rw (least (nthInt l 0), least (nthInt l 1), least (nthInt l 2), near-fits (nthInt l 3) e, near-fits (nthInt l 4) f, near-fits (nthInt l 5) g, near-fits (nthInt l 6) h))
+          tag {x = x} (rw (least (nthInt l 0), least (nthInt l 1), least (nthInt l 2), near-fits (nthInt l 3) e, near-fits (nthInt l 4) f, near-fits (nthInt l 5) g, near-fits (nthInt l 6) h), rw (near-back (nthInt l 3) e, near-back (nthInt l 4) f, near-back (nthInt l 5) g, near-back (nthInt l 6) h), refl)
 
   -- ---- a name
 
   fine-reset : Good (kept (resetOf s p q))
-  unfolding resetOf records inRange rows joinFits
+  unfolding resetOf inRange rows decodeOne decoders
   fine-reset =
       let a = trimStart s p q in
       let b = trimEnd s a q in
       tested (λ r. Good (kept (R r))) a b
-      (λ (l : a < b). tag (rw (part-fits a b (omega (arith, trim-end-high s a q)), part-full a b l)))
-      (λ (l : b ≤ a). tag refl)
+      (λ (l : a < b). tag (rw (part-fits a b (omega (arith, trim-end-high s a q)), part-full a b l), refl, refl))
+      (λ (l : b ≤ a). tag (refl, refl, refl))
 
   -- the letters behind fn make the name, then what the parameter adds
   fine-fn : (i m : ℕ) → i + 2 < m → m ≤ mostBytes → Good (kept (Fn (part (i + 2) m) (part p (trimEnd s p q))))
-  unfolding records inRange rows joinFits
+  unfolding inRange rows decodeOne decoders
   fine-fn i m l a =
       let y = part p (trimEnd s p q) in
-      tag {x = Fn (part (i + 2) m) y} (rw (part-fits (i + 2) m a, part-fits p (trimEnd s p q) (omega (arith, trim-end-high s p q)), full (part (i + 2) m .size) (y .size) (ltb-true 0 _ (part-full (i + 2) m l))))
+      tag {x = Fn (part (i + 2) m) y} (rw (part-fits (i + 2) m a, part-fits p (trimEnd s p q) (omega (arith, trim-end-high s p q)), full (part (i + 2) m .size) (y .size) (ltb-true 0 _ (part-full (i + 2) m l))), refl, refl)
     where
       full : (n k : ℕ) → 0 < n → ltb 0 (n + k) ≡ true
       full n k h = lt-ltb 0 (n + k) (omega arith)
 
   fine-named : (i m : ℕ) → i + 1 < m → m ≤ mostBytes → Good (kept (R (named (part (i + 1) m))))
-  unfolding records inRange rows joinFits
-  fine-named i m l a = tag {x = R (named (part (i + 1) m))} (rw (part-fits (i + 1) m a, part-full (i + 1) m l))
+  unfolding inRange rows decodeOne decoders
+  fine-named i m l a = tag {x = R (named (part (i + 1) m))} (rw (part-fits (i + 1) m a, part-full (i + 1) m l), refl, refl)
 
   -- ---- any plain tag
 
   fine-shape : (x : Shape) → Ranged x → Good (shaped x s p q)
   unfolding shaped
-  fine-shape (float f) h = fine-f32 f (λ x b. h x (float-fits b)) (f32-in s top p q high ends)
+  fine-shape (float f) h = fine-f32 f h (f32-in s top p q high ends)
   fine-shape (pair f) h = fine-long (fine-pair f h _ (floats-bounded s p q)) (f32s-in s top p q order high ends)
   fine-shape (ranged a b f) h = fine-ranged a b f h (i32At s p q)
   fine-shape (flag f) h = fine-flag f h

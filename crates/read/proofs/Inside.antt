@@ -18,6 +18,7 @@ use Rattle.numeral.specs.Numeral.{F32, number, tooLong, f32At, f32Of, splitAt, 
 use Rattle.numeral.specs.declared.Decimal.{Decimal}
 use Rattle.numeral.proofs.Laws.{f32-empty}
 use Rattle.numeral.proofs.Reach.{Bounded, number-in-reach}
+use Rattle.tag.specs.WellFormed.{All, all, more}
 use Rattle.survey.specs.Survey.{Unplain, isStop}
 use Rattle.survey.proofs.Laws.{unplain-wider}
 use Rattle.survey.proofs.Long.{Ends, blank-stops, byte-stops, long-unplain}
@@ -142,15 +143,6 @@ not-stops c f b e = go (eqb b c) refl e
     go true q r = byte-stops b c q f
     go false q r = absurd (true≢false r)
 
--- all of a list
-pub data All {A : Type 0} (P : A → Type 0) : List A → Type 0 where
-  all : All P []
-  more : {x : A} {l : List A} → P x → All P l → All P (x ∷ l)
-
 pub all-map : {A : Type 0} {P Q : A → Type 0} → ((x : A) → P x → Q x) → {l : List A} → All P l → All Q l
 all-map f all = all
 all-map f (more {x = x} h l) = more (f x h) (all-map f l)
-
-pub all-append : {A : Type 0} {P : A → Type 0} {a b : List A} → All P a → All P b → All P (a ++ b)
-all-append all k = k
-all-append (more h l) k = more h (all-append l k)

@@ -1,29 +1,35 @@
 -- A block inside a longer text reads as it does alone, offsets moved on.
 use mathlib.Core.Path.{_≡_, refl, sym, ap, _∙_}
 use mathlib.Core.List.{List, _∷_, _++_}
+use mathlib.Core.Bool.{Bool, true, false}
 use mathlib.Core.Logic.{⊎-elim}
-use Prim.Native.Nat.{ℕ, zero, suc, _+_, _-_, _≤_, _<_}
+use Prim.Native.Nat.{ℕ, zero, suc, _+_, _-_, _≤_, _<_, min}
 use native.Mathlib.Omega.{arith}
 use native.Mathlib.Nat.{le-refl, add-zero}
-use lib.ListN.{length, getD, length-append, List·getD-append}
-use lib.Seq.{getD-append-add}
-use lib.Dec.{eqb}
+use lib.ListN.{length, getD, take, drop, length-drop, take-append-drop, List·getD-append}
+use lib.Seq.{getD-append-add, length-take-le, drop-drop}
+use lib.Dec.{leb, eqb}
 use lib.Ieee.{Float}
-use Rattle.scan.specs.Scan.{inClass, closingTo, trimStart}
+use Rattle.scan.specs.Scan.{pick, inClass, closingTo, trimStart}
 use Rattle.scan.specs.declared.Class.the-variants.{Digit, Letter, Not, Neither}
 use Rattle.scan.proofs.Laws.{le-or-lt}
 use Rattle.numeral.specs.Numeral.{F32, tooLong, number, f32At}
 use Rattle.lists.specs.Lists.{firstOf}
 use Rattle.lists.specs.declared.Found.{Found}
 use Rattle.lists.specs.declared.Found.the-variants.{Nowhere, At}
-use Rattle.tag.specs.Tag.{Fad, Fade, Pos, Move, Frz, Blur, Fscx, Fscy, Color1, Fs, ClipRect, ClipDrawing, Frx, Fry, Org, Bord, Xbord, Ybord, Shad, Xshad, Yshad, Be, Fax, Fay, IClipRect, IClipDrawing, Color2, Color3, Color4, Alpha, Alpha1, Alpha2, Alpha3, Alpha4, Fsp, Q, An, A, Fn, Fe, R, B, I, U, S, Karaoke, Pbo, P, T, Reset, plain, named, Tags, none, and, append}
-use Rattle.tag.specs.Table.{records, encode}
+use Rattle.tag.specs.Tag.{mostDepth, T, Tags, none, and, append}
+use Rattle.tag.proofs.Tags.{count-map}
 use Rattle.plain.specs.Names.{keyAt, tKey}
 use Rattle.plain.specs.Plain.{One, no, long, kept, far, plainAt}
 use Rattle.read.specs.declared.Head.{Head}
 use Rattle.read.specs.Block.{Got, join, oneGot, paramAt, headAt, Peel, peeled, withHead, peelHead, headEnd, peel, peelTo, tOf, tagAt, walk, parse}
-use Rattle.read.specs.Moved.{movedTag, movedTags, movedFound, moved}
-use Rattle.read.specs.Reading.{keptTags}
+use Rattle.read.specs.Moved.{movedPart, movedTag, movedTags, movedFound, moved, movedReading, innerText}
+use Rattle.read.specs.Reading.{keptTags, readGround, unlessBad, wholeText, blockOf, answer}
+use Rattle.refusal.specs.Refusal.{mostPlaces, textGround}
+use Rattle.refusal.specs.declared.Refusal.the-variants.{NoRoom}
+use Rattle.read.specs.declared.Reading.the-variants.{Read, Refused}
+use Rattle.read.specs.declared.Span.{Span}
+use Rattle.read.proofs.Parts.{SpanIn}
 use Rattle.read.proofs.MovedScan.{Window, On, either, if-lt, on, next, gap, ltb-on, eqb-on, byte, span-on, closing-on, past-on, trim-start-on}
 use Rattle.read.proofs.MovedNumbers.{movedF32, f32-on}
 use Rattle.read.proofs.MovedPlain.{movedOne, key-at-on, plain-on}
@@ -37,7 +43,7 @@ module _ (k : ℕ) where
   first-moved (At p) b = refl
 
   append-moved : (a b : Tags) → append (movedTags k a) (movedTags k b) ≡ movedTags k (append a b)
-  unfolding append movedTags
+  unfolding append movedTags movedTag
   append-moved none b = refl
   append-moved (and x l) b = ap (and (movedTag k x)) (append-moved l b)
 
@@ -45,7 +51,7 @@ module _ (k : ℕ) where
   join-moved a b = rw (append-moved (a .tags) (b .tags), first-moved (a .long) (b .long), first-moved (a .far) (b .far))
 
   one-moved : (i : ℕ) (o : One) → oneGot (k + i) (movedOne k o) ≡ moved k (oneGot i o)
-  unfolding movedTags
+  unfolding movedTags movedTag
   one-moved i no = refl
   one-moved i (long p) = refl
   one-moved i (kept x) = refl
@@ -81,7 +87,7 @@ module _ {k n : ℕ} where
         (rw (ltb-on f g) (if-lt (PeelOn k n) j q (λ l. rw (same l) (either (PeelOn k n) (eqb b 92) (peeled-on f) (more l))) (peeled-on g)))
 
   t-on : {l′ l : Peel} {g′ : Got} (g : Got) → PeelOn k n l′ l → g′ ≡ moved k g → tOf l′ g′ ≡ moved k (tOf l g)
-  unfolding movedTag
+  unfolding movedTag movedTags
   t-on {l′} {l} {g′} g r e = rw (e, r .heads, r .long, first-moved k (l .long) (g .long))
 
 -- ---- reading
@@ -172,68 +178,47 @@ module _ (a s b : List ℕ) where
   pub block-moved : (d : ℕ) → parse d (a ++ (s ++ b)) (length a) (length a + length s) ≡ moved (length a) (parse d s 0 (length s))
   block-moved d = rw add-zero at (parse-moved d 0 (length s) (le-refl (length s)))
 
--- moved tags have as many records
-module _ (k : ℕ) where
-  tags-moved : (l : Tags) → length (encode (movedTags k l)) ≡ length (encode l)
-  unfolding encode movedTags
-  tags-moved l =
-      elim l as (λ x. length (records (movedTag k x)) ≡ length (records x)) (λ l. length (encode (movedTags k l)) ≡ length (encode l)) [
-        | Fad a b ↦ refl
-        | Fade a b c d e f g ↦ refl
-        | Pos x y ↦ refl
-        | Move x y z w t ↦ refl
-        | Frz x ↦ refl
-        | Blur x ↦ refl
-        | Fscx x ↦ refl
-        | Fscy x ↦ refl
-        | Color1 c ↦ refl
-        | Fs x ↦ refl
-        | ClipRect x y z w ↦ refl
-        | ClipDrawing x ↦ refl
-        | Frx x ↦ refl
-        | Fry x ↦ refl
-        | Org x y ↦ refl
-        | Bord x ↦ refl
-        | Xbord x ↦ refl
-        | Ybord x ↦ refl
-        | Shad x ↦ refl
-        | Xshad x ↦ refl
-        | Yshad x ↦ refl
-        | Be n ↦ refl
-        | Fax x ↦ refl
-        | Fay x ↦ refl
-        | IClipRect x y z w ↦ refl
-        | IClipDrawing x ↦ refl
-        | Color2 c ↦ refl
-        | Color3 c ↦ refl
-        | Color4 c ↦ refl
-        | Alpha n ↦ refl
-        | Alpha1 n ↦ refl
-        | Alpha2 n ↦ refl
-        | Alpha3 n ↦ refl
-        | Alpha4 n ↦ refl
-        | Fsp x ↦ refl
-        | Q n ↦ refl
-        | An n ↦ refl
-        | A n ↦ refl
-        | Fn x y ↦ refl
-        | Fe n ↦ refl
-        | R r ↦ reset-moved r
-        | B n ↦ refl
-        | I b ↦ refl
-        | U b ↦ refl
-        | S b ↦ refl
-        | Karaoke r n ↦ refl
-        | Pbo z ↦ refl
-        | P n ↦ refl
-        | T t x (l → h) ↦ ap suc h
-        | none ↦ refl
-        | and (x → h) (l → r) ↦ length-append (records (movedTag k x)) (encode (movedTags k l)) ∙ rw (h, r) (sym (length-append (records x) (encode l)))
-      ]
-    where
-      reset-moved : (r : Reset) → length (records (movedTag k (R r))) ≡ length (records (R r))
-      reset-moved plain = refl
-      reset-moved (named x) = refl
+-- moved tags are as many
+pub kept-moved : (k : ℕ) (g : Got) → keptTags (moved k g) ≡ keptTags g
+unfolding movedTags
+kept-moved k g = count-map (movedPart k) (g .tags)
 
-  pub kept-moved : (g : Got) → keptTags (moved k g) ≡ keptTags g
-  kept-moved g = tags-moved (g .tags)
+-- ---- the part of a text that a call reads
+
+ground-moved : (k : ℕ) (l f : Found) (n places : ℕ) → readGround (movedFound k l) (movedFound k f) n places ≡ movedReading k (readGround l f n places)
+unfolding readGround
+ground-moved k (At p) f n places = refl
+ground-moved k Nowhere (At p) n places = refl
+ground-moved k Nowhere Nowhere n places = go (leb n (min places mostPlaces))
+  where
+    go : (b : Bool) → pick b (Read n) (Refused (NoRoom n)) ≡ movedReading k (pick b (Read n) (Refused (NoRoom n)))
+    go true = refl
+    go false = refl
+
+-- The block, and the answer, are those of that part alone, offsets moved on: for the second call of what is left of the text less blanks and braces
+-- (`braces-in` says that it lies inside). Grounds 1 and 2 look at the text given.
+module _ (s : List ℕ) (x : Span) (inside : SpanIn s x) where
+  abbrev inner : List ℕ
+  inner = innerText s x
+
+  pub block-inside : blockOf s x ≡ moved (x .from) (blockOf inner (wholeText inner))
+  block-inside =
+      let n = x .to - x .from in
+      let o = inside .order in
+      let h = inside .high in
+      let a = take (x .from) s in
+      let b = drop (x .to) s in
+      let la : length a ≡ x .from = length-take-le (x .from) s (omega arith) in
+      let li : length inner ≡ n = length-take-le n (drop (x .from) s) (omega (arith, length-drop (x .from) s)) in
+      let z : x .from + n ≡ x .to = omega arith in
+      let c : drop (x .to) s ≡ drop n (drop (x .from) s) = ap (λ (m : ℕ). drop m s) (sym z) ∙ sym (drop-drop n (x .from) s) in
+      let d : inner ++ b ≡ drop (x .from) s = ap (λ (l : List ℕ). inner ++ l) c ∙ take-append-drop n (drop (x .from) s) in
+      let e : a ++ (inner ++ b) ≡ s = rw d (take-append-drop (x .from) s) in
+      let w : length a + length inner ≡ x .to = rw (la, li) z in
+      rw (e, w, la) at (block-moved a inner b mostDepth)
+
+  pub answer-inside : (places : ℕ) → let g = blockOf inner (wholeText inner) in answer s x places ≡ unlessBad (textGround s) (movedReading (x .from) (readGround (g .long) (g .far) (keptTags g) places))
+  unfolding answer
+  answer-inside places =
+      let g = blockOf inner (wholeText inner) in
+      rw (block-inside, kept-moved (x .from) g, ground-moved (x .from) (g .long) (g .far) (keptTags g) places)

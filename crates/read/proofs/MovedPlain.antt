@@ -23,7 +23,7 @@ use Rattle.tag.specs.Tag.{AnimatedTag, Be, Pbo, R}
 use Rattle.plain.specs.Names.{Shape, float, pair, ranged, flag, alpha, colour, clip, beat, fad, fade, move, edge, baseline, weight, reset, unknown, names, lookup, lower, key, keyAt}
 use Rattle.plain.specs.Plain.{One, no, long, kept, far, part, mapF32, f32s, i32s, allFloats, floatsIn, floats, ints, nth, firstLong, pairOf, moveOf, fadOf, fadeOf, isFar, rangedOf, weightOf, flagOf, mapAlpha, mapColour, clipOf, resetOf, beatOf, shaped, isFn, isNamedReset, plainAt, nthInt}
 use Rattle.plain.proofs.Every.{Every, gather, find}
-use Rattle.read.specs.Moved.{movedPart, movedReset, movedTag}
+use Rattle.read.specs.Moved.{movedPart, movedTag}
 use Rattle.read.proofs.MovedScan.{Window, On, either, if-eq, if-le, if-lt, next, gap, ltb-on, leb-on, byte, trim-start-on, trim-end-on}
 use Rattle.read.proofs.MovedNumbers.{movedF32, Parts, none, more, alpha-on, colour-on, i32-on, f32-on, parts-on}
 
@@ -193,7 +193,7 @@ module _ {w s : List ℕ} {k n : ℕ} (v : Window w s k n) where
         let a = trim-start-on v h g in
         let b = trim-end-on v a g in
         let x = trimStart s p q in
-        rw (ltb-on a b, part-on a b) (ap R (either (λ x y. x ≡ movedReset k y) (ltb x (trimEnd s x q)) refl refl))
+        rw (ltb-on a b, part-on a b) (ap R (either (λ x y. x ≡ Tag.mapReset (movedPart k) y) (ltb x (trimEnd s x q)) refl refl))
 
     shaped-on : (x : Shape) → Still k x → Moves k (shaped x w p′ q′) (shaped x s p q)
     unfolding shaped movedTag

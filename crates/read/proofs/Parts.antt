@@ -25,7 +25,8 @@ use Rattle.read.specs.declared.Span.{Span}
 use Rattle.read.specs.Block.{Got, nothing, join, oneGot, paramAt, nameEnd, headAt, HeadIn, Peel, peeled, peelHead, headEnd, peel, peelTo, tOf, tagAt, walk, parse}
 use Rattle.read.specs.Reading.{wholeText, braceEnd, lessBraces}
 use Rattle.scan.proofs.Bounds.{tested, span-to-high, past-high, trim-start-low, trim-start-high, trim-end-low, trim-end-high}
-use Rattle.read.proofs.Inside.{span-ends, not-stops, Between, nowhere, there, between-wider, All, all, more, F32In, no-numeral, too-long, a-number, f32-in}
+use Rattle.tag.specs.WellFormed.{All, all, more}
+use Rattle.read.proofs.Inside.{span-ends, not-stops, Between, nowhere, there, between-wider, F32In, no-numeral, too-long, a-number, f32-in}
 use Rattle.read.proofs.Walk.{name-low}
 
 -- ---- a tag's name and parameter

@@ -18,8 +18,8 @@ use Rattle.survey.specs.Survey.{slashesTo, Straight}
 use Rattle.survey.proofs.Laws.{unplain-wider, slashes-one, slashes-split, slashes-inside, slashes-most}
 use Rattle.lists.specs.declared.Found.{Found}
 use Rattle.lists.specs.declared.Found.the-variants.{At}
-use Rattle.tag.specs.Table.{encode}
-use Rattle.tag.proofs.Tags.{encode-append}
+use Rattle.tag.specs.Tag.{T, Tags, count}
+use Rattle.tag.proofs.Tags.{count-none, count-single, count-and, count-append}
 use Rattle.plain.specs.Plain.{One}
 use Rattle.plain.proofs.Gives.{Single}
 use Rattle.plain.proofs.Bridge.{plain-single}
@@ -27,7 +27,8 @@ use Rattle.read.specs.declared.Reading.{Reading}
 use Rattle.read.specs.declared.Reading.the-variants.{Read}
 use Rattle.read.proofs.Answer.{good-short}
 use Rattle.read.specs.declared.Span.{Span}
-use Rattle.read.specs.Block.{Got, nothing as none, join, oneGot, Peel, tOf, parse, mostDepth}
+use Rattle.read.specs.Block.{headTimes, headAccel, Got, nothing as none, join, oneGot, Peel, tOf, parse}
+use Rattle.tag.specs.Tag.{mostDepth}
 use Rattle.read.specs.Reading.{keptTags, readGround, unlessBad, blockOf, answer, groundPlace}
 use Rattle.scan.proofs.Bounds.{tested}
 use Rattle.read.proofs.Inside.{Between, nowhere, there, between-at, between-wider, between-first, between-none}
@@ -41,7 +42,7 @@ pub record Placed (s : List ℕ) (top i e : ℕ) (g : Got) : Type 0 where
   pub few : keptTags g ≤ slashesTo s i e
 
 none-placed : (s : List ℕ) (top i e : ℕ) → Placed s top i e none
-unfolding encode
+unfolding count
 none-placed s top i e = record { long = nowhere; far = nowhere; few = omega arith }
 
 join-placed : {s : List ℕ} {top i k e : ℕ} (g h : Got) → i ≤ k → k ≤ e → Placed s top i k g → Placed s top k e h → Placed s top i e (join g h)
@@ -49,23 +50,22 @@ join-placed {s} {top} {i} {k} {e} g h a b u v =
     record {
       long = between-first (between-wider (le-refl i) b (u .long)) (between-wider a (le-refl e) (v .long));
       far = between-first (between-wider (le-refl i) b (u .far)) (between-wider a (le-refl e) (v .far));
-      few = rw (encode-append (g .tags) (h .tags), length-append (encode (g .tags)) (encode (h .tags))) (omega (arith, u .few, v .few, slashes-split s i k e a b));
+      few = rw (count-append (g .tags) (h .tags)) (omega (arith, u .few, v .few, slashes-split s i k e a b));
     }
 
 one-placed : {s : List ℕ} {top i p q e : ℕ} {o : One} → getD s i 0 ≡ 92 → i < p → p ≤ q → q ≤ e → Fine s top p q o → Single o → Placed s top i e (oneGot i o)
-unfolding encode
+unfolding count
 one-placed z a b c nothing u = record { long = nowhere; far = nowhere; few = omega arith }
 one-placed z a b c (late k l h v) u = record { long = there k (omega arith) (omega arith) (unplain-wider (omega arith) c v); far = nowhere; few = omega arith }
-one-placed {s} {top} {i} {p} {q} {e} z a b c (tag h) u = record { long = nowhere; far = nowhere; few = rw u (omega (arith, slashes-one s i e (omega arith) z)) }
-one-placed {s} {top} {i} {p} {q} {e} z a b c (away h v) u = record { long = nowhere; far = there i (le-refl i) (omega arith) (unplain-wider (omega arith) c v); few = rw u (omega (arith, slashes-one s i e (omega arith) z)) }
+one-placed {s} {top} {i} {p} {q} {e} z a b c (tag {x = x} h) u = record { long = nowhere; far = nowhere; few = omega (arith, count-single x u, slashes-one s i e (omega arith) z) }
+one-placed {s} {top} {i} {p} {q} {e} z a b c (away {x = x} h v) u = record { long = nowhere; far = there i (le-refl i) (omega arith) (unplain-wider (omega arith) c v); few = omega (arith, count-single x u, slashes-one s i e (omega arith) z) }
 
 t-placed : {s : List ℕ} {top i p q e : ℕ} (l : Peel) (g : Got) → getD s i 0 ≡ 92 → i < p → q ≤ e → PeelIn s top p q l → Placed s top (l .rest) q g → Placed s top i e (tOf l g)
-unfolding encode
 t-placed {s} {top} {i} {p} {q} {e} l g z a b u v =
     record {
       long = between-first (between-wider (omega arith) b (u .long)) (between-wider (omega (arith, u .low)) b (v .long));
       far = between-wider (omega (arith, u .low)) b (v .far);
-      few = rw (length-append (encode (g .tags)) []) (omega (arith, v .few, slashes-one s i e (omega (arith, u .low, u .high)) z, slashes-inside s (i + 1) (l .rest) q e (omega (arith, u .low)) (u .high) b));
+      few = omega (arith, count-and (T (headTimes (l .heads)) (headAccel (l .heads)) (g .tags)) Tags.none, count-none, v .few, slashes-one s i e (omega (arith, u .low, u .high)) z, slashes-inside s (i + 1) (l .rest) q e (omega (arith, u .low)) (u .high) b);
     }
 
 pub placed : (d : ℕ) (s : List ℕ) (i e : ℕ) → i ≤ e → e ≤ mostBytes → Placed s e i e (parse d s i e)

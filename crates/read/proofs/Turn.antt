@@ -17,10 +17,11 @@ use Rattle.lists.specs.declared.Found.{Found}
 use Rattle.lists.specs.declared.Found.the-variants.{Nowhere, At}
 use Rattle.float.specs.Float.{toWord}
 use Rattle.numeral.specs.Numeral.{F32, number, tooLong, f32At}
-use Rattle.tag.specs.Table.{encode, laid, bits, tRecord}
+use Rattle.tag.specs.Table.{records, encode, laid, bits, tRecord}
 use Rattle.tag.specs.declared.Record.{Record}
 use Rattle.tag.proofs.Table.{length-laid, laid-t, laid-step, rest-is, rest-back}
-use Rattle.tag.proofs.Tags.{encode-append}
+use Rattle.tag.specs.Tag.{T, Tags, and, count}
+use Rattle.tag.proofs.Tags.{encode-append, count-none, count-and, count-length, count-single, count-append}
 use Rattle.plain.specs.Plain.{One, no, long, kept, far, plainAt, floatOf, timeOf}
 use Rattle.plain.specs.Coded.{keptOf, cutWord}
 use Rattle.plain.specs.declared.Kept.{Kept}
@@ -39,11 +40,11 @@ use Rattle.read.proofs.Walk.{t-more}
 -- ---- a plain tag
 
 told-one : (i : ℕ) (x : One) (t : List ℕ) (most : ℕ) → 1 ≤ most → Single x → Told t (oneGot i x) most (keptGot i (keptOf x)) (laid t (keptRecords (keptOf x)))
-unfolding encode laid
+unfolding encode laid records count
 told-one i no t most h s = record { out = refl; table = refl; few = omega arith }
 told-one i (long p) t most h s = record { out = refl; table = refl; few = omega arith }
-told-one i (kept x) t most h s = record { out = rw s; table = rw s; few = h }
-told-one i (far x) t most h s = record { out = rw s; table = rw s; few = h }
+told-one i (kept x) t most h s = record { out = rw (count-single x s); table = rw s; few = h }
+told-one i (far x) t most h s = record { out = rw (count-single x s); table = rw s; few = h }
 
 pub plain-told : (s : List ℕ) (i a b p q : ℕ) (t : List ℕ) (most : ℕ) (k : Kept) (r : Out) (u : List ℕ) → 1 ≤ most → k ≡ keptOf (plainAt s a b p q) → r ≡ keptGot i k → u ≡ laid t (keptRecords k)
     → Told t (oneGot i (plainAt s a b p q)) most r u
@@ -116,8 +117,9 @@ module _ (d : ℕ) (s : List ℕ) (p q : ℕ) (t : List ℕ) (l : Peeled) (o r :
       let tb = part-table t u (encode (i .tags)) k (omega arith) (a2 .table) in
       let y : x ≡ tRecord (headTimes (w .heads)) (headAccel (w .heads)) (keptTags i) = b ∙ rw (g .heads, n) (t-words (peel-backs s q (suc (q - trimStart s p q)) (trimStart s p q)) (keptTags i)) in
       let z : v ≡ laid t (x ∷ encode (i .tags)) = c ∙ ap (λ (y : List ℕ). laid y (x ∷ [])) tb ∙ laid-t t x (encode (i .tags)) k e in
+      let cn : count (and (T (headTimes (w .heads)) (headAccel (w .heads)) (i .tags)) Tags.none) ≡ keptTags i + 1 = omega (arith, count-and (T (headTimes (w .heads)) (headAccel (w .heads)) (i .tags)) Tags.none, count-none) in
       record {
-        out = rw (f, t-more d s p q h, append-nil (encode (i .tags)), n, m, j, g .long, add-one);
+        out = rw (f, t-more d s p q h, cn, n, m, j, g .long);
         table = rw (t-more d s p q h, append-nil (encode (i .tags)), ← y) z;
         few = rw f (omega (arith, a .few, g .low));
       }
@@ -149,7 +151,8 @@ turning-turn {t₀} {t} {u} {all} {rest} {g} {o} {o′} {r} {k} {most} l e a f =
     let x = encode (g .tags) in
     let w = part-table t u x k (omega arith) (a .table) in
     let n = length-part t x k (omega arith) in
-    let m : o′ .n ≡ length x = ap (λ (y : Out). y .n) (a .out) in
+    let c : o′ .n ≡ count (g .tags) = ap (λ (y : Out). y .n) (a .out) in
+    let m : o′ .n ≡ length x = c ∙ count-length (g .tags) in
     let b : o′ .long ≡ g .long = ap (λ (y : Out). y .long) (a .out) in
     let d : o′ .far ≡ g .far = ap (λ (y : Out). y .far) (a .out) in
     let ea = encode-append (g .tags) (rest .tags) in
@@ -157,7 +160,7 @@ turning-turn {t₀} {t} {u} {all} {rest} {g} {o} {o′} {r} {k} {most} l e a f =
     record {
       len = rw w (n ∙ l .len);
       table = rw (w, n, f, m) (l .table ∙ rw (ea, ← e) s);
-      count = rw f (omega (arith, l .count, ap length ea, length-append x (encode (rest .tags))));
+      count = rw f (omega (arith, l .count, c, count-append (g .tags) (rest .tags)));
       long = rw (f, b) (l .long ∙ first-assoc (o .long) (g .long) (rest .long));
       far = rw (f, d) (l .far ∙ first-assoc (o .far) (g .far) (rest .far));
     }
@@ -165,7 +168,7 @@ turning-turn {t₀} {t} {u} {all} {rest} {g} {o} {o′} {r} {k} {most} l e a f =
 pub turning-end : {t₀ t : List ℕ} {all : Got} {o : Out} {most : ℕ} → Turning t₀ all nothing t o → o .n ≤ most → Told t₀ all most o t
 unfolding encode laid
 turning-end {t₀} {t} {all} {o} {most} l h =
-    let m : keptTags all ≡ o .n = omega (arith, l .count) in
+    let m : keptTags all ≡ o .n = omega (arith, l .count, count-none) in
     let b : all .long ≡ o .long = l .long ∙ first-end (o .long) in
     let d : all .far ≡ o .far = l .far ∙ first-end (o .far) in
     record { out = rw (m, b, d); table = sym (l .table ∙ take-append-drop (min (8 * o .n) (length t)) t); few = h }

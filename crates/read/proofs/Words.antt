@@ -16,7 +16,7 @@ use Rattle.scan.specs.Scan.{pick, inClass, trimStart, trimEnd}
 use Rattle.scan.specs.declared.Class.the-variants.{Not}
 use Rattle.scan.proofs.Laws.{picked, span-low}
 use Rattle.refusal.specs.Refusal.{mostBytes}
-use Rattle.float.specs.Float.{zero as plusZero, inReach, maxZero, roundAway, roundSize, roundByte, toWord}
+use Rattle.float.specs.Float.{zero as plusZero, inReach, maxZero, roundAway, roundSize, roundByte, toWord, ofWord}
 use Rattle.float.proofs.Reach.{cut-in-reach, round-in-reach, max-zero-in-reach, round-max-zero}
 use Rattle.numeral.specs.Numeral.{F32, I32, whole, i32At}
 use Rattle.numeral.proofs.Reach.{Bounded}
@@ -26,18 +26,22 @@ use Rattle.survey.proofs.Long.{Ends, far-unplain}
 use Rattle.lists.specs.Lists as Lists
 use Rattle.lists.specs.Lists.{commaTo, split, parts}
 use Rattle.tag.specs.Tag as Tag
-use Rattle.tag.specs.Tag.{AnimatedTag}
-use Rattle.tag.specs.Table.{records, bits, flagWord}
+use Rattle.tag.specs.Tag.{AnimatedTag, none, inside}
+use Rattle.tag.specs.Table.{head, bits, flagWord}
 use Rattle.tag.specs.Range as Range
-use Rattle.tag.specs.Range.{WordClass, range, wordFits, partFits, rows, joinFits, inRange}
+use Rattle.tag.specs.Range.{WordClass, range, wordFits, partFits, rows, inRange}
 use Rattle.plain.specs.Names.{Shape, float, pair, ranged, flag, alpha, colour, clip, beat, fad, fade, move, edge, baseline, weight, reset, unknown, names}
 use Rattle.plain.specs.Plain.{part, floatOf, f32s, i32s, allFloats, floatsIn, floats, allInts, intOf, intsIn, ints, nth, nthInt, timeOf, notBelowZero, isFar}
-use Rattle.plain.specs.Coded.{recordOf, kindOf}
+use Rattle.plain.specs.Coded.{kindOf}
+use Rattle.float.proofs.Words.{ofWord-toWord}
+use Rattle.tag.specs.Decode.{flagOf, decoders, decodeOne}
+use Rattle.tag.proofs.Decoding.{Back}
 use Rattle.plain.proofs.Numbers.{Small, zero-small}
 use Rattle.plain.proofs.Commas.{ints-read}
 use Rattle.plain.proofs.Every.{Every, gather}
 use Rattle.scan.proofs.Bounds.{tested, span-to-high, trim-start-low, trim-end-high}
-use Rattle.read.proofs.Inside.{span-ends, not-stops, All, all, more, all-map, F32In, no-numeral, too-long, a-number, f32-wider, f32-in}
+use Rattle.tag.specs.WellFormed.{All, all, more}
+use Rattle.read.proofs.Inside.{span-ends, not-stops, all-map, F32In, no-numeral, too-long, a-number, f32-wider, f32-in}
 
 -- ---- words
 
@@ -185,32 +189,53 @@ module _ (s : List ℕ) where
   pub ints-near : (p q n : ℕ) → p ≤ q → Near p q (nthInt (ints (i32s s (parts s p q))) n)
   ints-near p q n h = picked (λ (l : List ℤ). Near p q (nthInt l n)) (allInts (i32s s (parts s p q))) _ _ (all-near q (q - p) p n h) (near-zero p q)
 
+-- ---- words read back
+
+pub flag-back : (b : Bool) → flagOf (flagWord b) ≡ b
+flag-back true = refl
+flag-back false = refl
+
+word-back : (z : ℤ) → natAbs z ≤ 1000000000 → ofWord (toWord z) ≡ z
+word-back (pos n) h = ofWord-toWord (pos n) (record { sfits = omega arith })
+word-back (negsuc n) h = ofWord-toWord (negsuc n) (record { sfits = omega arith })
+
+pub near-back : (z : ℤ) → isFar z ≡ false → ofWord (toWord z) ≡ z
+near-back (pos n) h = word-back (pos n) (ltb-false 1000000000 n h)
+near-back (negsuc n) h = word-back (negsuc n) (leb-false 1000000000 n h)
+
+pub cut-back : {x : Float} → Bounded x → ofWord (toWord (timeOf x)) ≡ timeOf x
+cut-back {x} b = word-back (timeOf x) (cut-in-reach x (b .reach))
+
+pub round-back : {x : Float} → Bounded x → ofWord (toWord (roundAway x)) ≡ roundAway x
+round-back {x} b = word-back (roundAway x) (round-in-reach x (b .reach))
+
 -- ---- a tag
 
 -- whether a tag is none that holds others, and its record is in range
 abbrev pub sound : AnimatedTag → Bool
-sound x = pick (ltb (kindOf x) 49) (inRange (recordOf x)) false
+sound x = pick (ltb (kindOf x) 49) (inRange (head x)) false
 
+-- that, and that its record is read back as it
 abbrev pub Sound : AnimatedTag → Type 0
-Sound x = sound x ≡ true
+Sound x = (sound x ≡ true) × (decodeOne (head x) ≡ x) × (inside x ≡ none)
 
-pub sound-tag : (x : AnimatedTag) → Sound x → (kindOf x < 49) × (inRange (recordOf x) ≡ true)
-sound-tag x h = go (ltb (kindOf x) 49) refl h
+pub sound-tag : (x : AnimatedTag) → Sound x → Back x
+sound-tag x h = go (ltb (kindOf x) 49) refl (h .0)
   where
-    go : (b : Bool) → ltb (kindOf x) 49 ≡ b → pick b (inRange (recordOf x)) false ≡ true → (kindOf x < 49) × (inRange (recordOf x) ≡ true)
-    go true e g = (ltb-true (kindOf x) 49 e, g)
+    go : (b : Bool) → ltb (kindOf x) 49 ≡ b → pick b (inRange (head x)) false ≡ true → Back x
+    go true e g = record { single = h .2; kind = λ k. omega (arith, ltb-true (kindOf x) 49 e); range = g; back = h .1 }
     go false e g = absurd (true≢false (sym g))
 
--- every tag of the table is in range when its words are
+-- every tag of the table is in range when its words are, and read back
 abbrev pub Ranged : Shape → Type 0
-Ranged (float f) = (x : Float) → Fits Range.float (bits x) → Sound (f x)
-Ranged (pair f) = (x y : Float) → Fits Range.float (bits x) → Fits Range.float (bits y) → Sound (f x y)
+Ranged (float f) = (x : Float) → Bounded x → Sound (f x)
+Ranged (pair f) = (x y : Float) → Bounded x → Bounded y → Sound (f x y)
 Ranged (ranged a b f) = (n : ℕ) → Fits (range a b) n → Sound (f n)
 Ranged (flag f) = (b : Bool) → Fits (range 0 1) (flagWord b) → Sound (f b)
 Ranged (alpha f) = (n : ℕ) → Fits (range 0 255) n → Sound (f n)
 Ranged (colour f) = (c : Tag.Rgb) → Fits (range 0 255) (c .red) → Fits (range 0 255) (c .green) → Fits (range 0 255) (c .blue) → Sound (f c)
 Ranged (clip f g) =
-    ((x y z w : Float) → Fits Range.float (bits x) → Fits Range.float (bits y) → Fits Range.float (bits z) → Fits Range.float (bits w) → Sound (f x y z w))
+    ((x y z w : Float) → Bounded x → Bounded y → Bounded z → Bounded w → Sound (f x y z w))
     × ((x : Tag.Part) → partFits (x .offset) (x .size) ≡ true → Sound (g x))
 Ranged (beat k) = Unit
 Ranged fad = Unit
@@ -223,12 +248,12 @@ Ranged reset = Unit
 Ranged unknown = Unit
 
 pub every : Every Ranged names
-unfolding names records inRange rows joinFits
+unfolding names inRange rows decodeOne decoders
 every =
     gather Ranged names (Every Ranged names) (λ e. e)
-    tt tt tt (λ x h. rw h) (λ x h. rw h) (λ x h. rw h) (λ x h. rw h) (λ x y h k. rw (h, k)) (λ x y h k. rw (h, k)) (λ x h. rw h) tt
-    (λ x h. rw h) (λ x h. rw h) (λ x h. rw h) (λ x h. rw h) (λ x h. rw h) (λ x h. rw h) tt (λ n h. rw h)
-    (λ x h. rw h) (λ x h. rw h) (λ x h. rw h) (λ x h. rw h) (λ x h. rw h) (λ x h. rw h) (λ n h. rw h)
-    (λ n h. rw h) (λ n h. rw h) tt tt tt tt (λ c h k l. rw (h, k, l)) (λ c h k l. rw (h, k, l)) (λ c h k l. rw (h, k, l)) (λ c h k l. rw (h, k, l))
-    (λ c h k l. rw (h, k, l)) (λ n h. rw h) (λ n h. rw h) (λ n h. rw h) (λ n h. rw h) (λ n h. rw h) (λ x y z w h k l m. rw (h, k, l, m), λ x h. rw h)
-    (λ x y z w h k l m. rw (h, k, l, m), λ x h. rw h) (λ n h. rw h) tt (λ b h. rw h) (λ b h. rw h) (λ b h. rw h) tt
+    tt tt tt (λ x b. (rw (float-fits b), rw (b .back), refl)) (λ x b. (rw (float-fits b), rw (b .back), refl)) (λ x b. (rw (float-fits b), rw (b .back), refl)) (λ x b. (rw (float-fits b), rw (b .back), refl)) (λ x y b c. (rw (float-fits b, float-fits c), rw (b .back, c .back), refl)) (λ x y b c. (rw (float-fits b, float-fits c), rw (b .back, c .back), refl)) (λ x b. (rw (float-fits b), rw (b .back), refl)) tt
+    (λ x b. (rw (float-fits b), rw (b .back), refl)) (λ x b. (rw (float-fits b), rw (b .back), refl)) (λ x b. (rw (float-fits b), rw (b .back), refl)) (λ x b. (rw (float-fits b), rw (b .back), refl)) (λ x b. (rw (float-fits b), rw (b .back), refl)) (λ x b. (rw (float-fits b), rw (b .back), refl)) tt (λ n h. (rw h, refl, refl))
+    (λ x b. (rw (float-fits b), rw (b .back), refl)) (λ x b. (rw (float-fits b), rw (b .back), refl)) (λ x b. (rw (float-fits b), rw (b .back), refl)) (λ x b. (rw (float-fits b), rw (b .back), refl)) (λ x b. (rw (float-fits b), rw (b .back), refl)) (λ x b. (rw (float-fits b), rw (b .back), refl)) (λ n h. (rw h, refl, refl))
+    (λ n h. (rw h, refl, refl)) (λ n h. (rw h, refl, refl)) tt tt tt tt (λ c h k l. (rw (h, k, l), refl, refl)) (λ c h k l. (rw (h, k, l), refl, refl)) (λ c h k l. (rw (h, k, l), refl, refl)) (λ c h k l. (rw (h, k, l), refl, refl))
+    (λ c h k l. (rw (h, k, l), refl, refl)) (λ n h. (rw h, refl, refl)) (λ n h. (rw h, refl, refl)) (λ n h. (rw h, refl, refl)) (λ n h. (rw h, refl, refl)) (λ n h. (rw h, refl, refl)) (λ x y z w a b c d. (rw (float-fits a, float-fits b, float-fits c, float-fits d), rw (a .back, b .back, c .back, d .back), refl), λ p h. (rw h, refl, refl))
+    (λ x y z w a b c d. (rw (float-fits a, float-fits b, float-fits c, float-fits d), rw (a .back, b .back, c .back, d .back), refl), λ p h. (rw h, refl, refl)) (λ n h. (rw h, refl, refl)) tt (λ b h. (rw h, rw (flag-back b), refl)) (λ b h. (rw h, rw (flag-back b), refl)) (λ b h. (rw h, rw (flag-back b), refl)) tt

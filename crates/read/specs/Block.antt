@@ -19,10 +19,6 @@ use Rattle.plain.specs.Names.{keyAt, tKey}
 use Rattle.plain.specs.Plain.{One, no, long, kept, far, plainAt, timeOf}
 use Rattle.read.specs.declared.Head.{Head}
 
--- 01, Reading: "At depth 8 a \t is dropped with its parameter unread"
-abbrev pub mostDepth : ℕ
-mostDepth = 8
-
 -- what a text gives: the tags kept, the first numeral that is too long, the first \fade whose times lie too far off
 pub record Got : Type 0 where
   pub tags : Tags

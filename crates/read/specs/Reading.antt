@@ -1,7 +1,7 @@
 -- What the two reading calls answer, and what the table holds afterwards.
 use mathlib.Core.Path.{_≡_}
 use mathlib.Core.List.{List}
-use Prim.Native.Nat.{ℕ, _-_, _/_, _≤_, _<_, min}
+use Prim.Native.Nat.{ℕ, _-_, _≤_, min}
 use lib.Dec.{ltb, leb, eqb}
 use lib.ListN.{length, getD}
 use Rattle.scan.specs.Scan.{pick, inClass, past, trimStart, trimEnd}
@@ -10,18 +10,20 @@ use Rattle.lists.specs.declared.Found.{Found}
 use Rattle.lists.specs.declared.Found.the-variants.{Nowhere, At}
 use Rattle.refusal.specs.Refusal.{numberOf, placeOf, mostPlaces, textGround}
 use Rattle.refusal.specs.declared.Refusal.the-variants.{NumeralTooLong, FadeTooFar, NoRoom}
-use Rattle.tag.specs.Table.{encode, laid, width}
+use Rattle.tag.specs.Tag.{count}
+use Rattle.tag.specs.Table.{encode, laid, placesOf}
 use Rattle.read.specs.declared.Out.{Out}
 use Rattle.read.specs.declared.Reading.{Reading}
 use Rattle.read.specs.declared.Reading.the-variants.{Read, Refused}
 use Rattle.read.specs.declared.Span.{Span}
 use Rattle.refusal.specs.declared.Checked.{Checked}
 use Rattle.refusal.specs.declared.Checked.the-variants.{Good, Bad}
-use Rattle.read.specs.Block.{Got, parse, mostDepth}
+use Rattle.read.specs.Block.{Got, parse}
+use Rattle.tag.specs.Tag.{mostDepth}
 
 -- 01, What demand 3 speaks of: each tag counts as one, a \t and each tag inside it
 abbrev pub keptTags : Got → ℕ
-keptTags g = length (encode (g .tags))
+keptTags g = count (g .tags)
 
 -- what a reader of the cycle says of its result r and of the table, t before and u after
 abbrev pub outOf : Got → Out
@@ -41,10 +43,6 @@ readGround Nowhere Nowhere n places = pick (leb n (min places mostPlaces)) (Read
 abbrev pub unlessBad : Checked → Reading → Reading
 unlessBad (Bad r) x = Refused r
 unlessBad Good x = x
-
--- a place is one whole record
-abbrev pub placesOf : List ℕ → ℕ
-placesOf t = length t / width
 
 -- the part of the text that is read: all of it, or what `parse_raw_block` leaves: trimmed, less one { and one }
 abbrev pub wholeText : List ℕ → Span

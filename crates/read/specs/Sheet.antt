@@ -1,6 +1,8 @@
 -- Worked examples, by computation: 01's sheet where it speaks of reading, and the traps.
 use mathlib.Core.Path.{_≡_, refl}
-use mathlib.Core.List.{List, [], _∷_, map}
+use mathlib.Core.List.{List, [], _∷_, _++_, map}
+use Prim.Native.Nat.{ℕ}
+use lib.ListN.{replicate}
 use Prim.Native.String.{String}
 use lib.Ieee.{round, toBits, toSigned}
 use Rattle.scan.specs.Scan.{span, back, skip, skipBack, blankAt, blankBefore, closing}
@@ -9,9 +11,9 @@ use Rattle.numeral.specs.Sheet.{bytes}
 use Rattle.numeral.specs.Numeral.{value, wholeNumber, i32Of, hexAt, splitAt, exponentAt, floatOf, f32Of}
 use Rattle.colour.specs.Colour.{trimmed, ampersands, zeroXAt, digits, alphaAt, colourAt}
 use Rattle.lists.specs.Lists.{split}
-use Rattle.refusal.specs.declared.Refusal.the-variants.{NumeralTooLong, FadeTooFar}
+use Rattle.refusal.specs.declared.Refusal.the-variants.{TextTooLong, NotAscii, NumeralTooLong, FadeTooFar, NoRoom}
 use Rattle.tag.specs.declared.Record.{Record}
-use Rattle.tag.specs.Tag.{append}
+use Rattle.tag.specs.Tag.{append, count}
 use Rattle.tag.specs.Table.{rec, records, encode}
 use Rattle.plain.specs.Names.{names, lookup, key, keyAt}
 use Rattle.plain.specs.Plain.{part, f32s, i32s, allFloats, floatsIn, allInts, intsIn, firstLong, pairOf, moveOf, fadOf, fadeOf, rangedOf, weightOf, flagOf, clipOf, resetOf, shaped, isFn, isNamedReset, plainAt}
@@ -57,7 +59,7 @@ pub tables : Gives recordsOf (
     ("\\fs(nan)", []) ∷
     ("\\\\\\i1", rec 43 1 0 0 0 0 0 0 ∷ []) ∷
     [])
-unfolding round toBits toSigned span back skip skipBack blankAt blankBefore closing maxZero roundAway roundByte value wholeNumber i32Of hexAt splitAt exponentAt floatOf f32Of trimmed ampersands zeroXAt digits alphaAt colourAt split append records names lookup key keyAt part f32s i32s allFloats floatsIn allInts intsIn firstLong pairOf moveOf fadOf fadeOf rangedOf weightOf flagOf clipOf resetOf shaped isFn isNamedReset plainAt paramAt peel tagAt walk parse
+unfolding round toBits toSigned span back skip skipBack blankAt blankBefore closing maxZero roundAway roundByte value wholeNumber i32Of hexAt splitAt exponentAt floatOf f32Of trimmed ampersands zeroXAt digits alphaAt colourAt split append records encode count names lookup key keyAt part f32s i32s allFloats floatsIn allInts intsIn firstLong pairOf moveOf fadOf fadeOf rangedOf weightOf flagOf clipOf resetOf shaped isFn isNamedReset plainAt paramAt peel tagAt walk parse
 tables = refl
 
 pub raw : Gives rawRecordsOf (
@@ -65,7 +67,7 @@ pub raw : Gives rawRecordsOf (
     ("{\\rAlt}", rec 41 1 3 3 0 0 0 0 ∷ []) ∷
     ("{{\\fnArial}}", rec 39 5 5 10 1 0 0 0 ∷ []) ∷
     [])
-unfolding round toBits toSigned span back skip skipBack blankAt blankBefore closing maxZero roundAway roundByte value wholeNumber i32Of hexAt splitAt exponentAt floatOf f32Of trimmed ampersands zeroXAt digits alphaAt colourAt split append records names lookup key keyAt part f32s i32s allFloats floatsIn allInts intsIn firstLong pairOf moveOf fadOf fadeOf rangedOf weightOf flagOf clipOf resetOf shaped isFn isNamedReset plainAt paramAt peel tagAt walk parse lessBraces
+unfolding round toBits toSigned span back skip skipBack blankAt blankBefore closing maxZero roundAway roundByte value wholeNumber i32Of hexAt splitAt exponentAt floatOf f32Of trimmed ampersands zeroXAt digits alphaAt colourAt split append records encode count names lookup key keyAt part f32s i32s allFloats floatsIn allInts intsIn firstLong pairOf moveOf fadOf fadeOf rangedOf weightOf flagOf clipOf resetOf shaped isFn isNamedReset plainAt paramAt peel tagAt walk parse lessBraces
 raw = refl
 
 pub answers : Gives answerOf (
@@ -83,5 +85,27 @@ pub answers : Gives answerOf (
     ("\\i1\\fade(0,0,0,0,0,0,1000000001)", Refused (FadeTooFar 3)) ∷
     ("\\fade(0,0,0,-1000000000,0,0,1000000000)", Read 1) ∷
     [])
-unfolding round toBits toSigned span back skip skipBack blankAt blankBefore closing maxZero roundAway roundByte value wholeNumber i32Of hexAt splitAt exponentAt floatOf f32Of trimmed ampersands zeroXAt digits alphaAt colourAt split append records names lookup key keyAt part f32s i32s allFloats floatsIn allInts intsIn firstLong pairOf moveOf fadOf fadeOf rangedOf weightOf flagOf clipOf resetOf shaped isFn isNamedReset plainAt paramAt peel tagAt walk parse textGround readGround answer
+unfolding round toBits toSigned span back skip skipBack blankAt blankBefore closing maxZero roundAway roundByte value wholeNumber i32Of hexAt splitAt exponentAt floatOf f32Of trimmed ampersands zeroXAt digits alphaAt colourAt split append records encode count names lookup key keyAt part f32s i32s allFloats floatsIn allInts intsIn firstLong pairOf moveOf fadOf fadeOf rangedOf weightOf flagOf clipOf resetOf shaped isFn isNamedReset plainAt paramAt peel tagAt walk parse textGround readGround answer
 answers = refl
+
+-- 01, Grounds: "Two faults: the lower number", for each two neighbours of 1, 2, 3, 4 and 9; the second is the number of places
+abbrev answerIn : List ℕ × ℕ → Reading
+answerIn r = answer (r .0) (wholeText (r .0)) (r .1)
+
+abbrev farFade : String
+farFade = "\\fade(0,0,0,0,0,0,1000000001)"
+
+abbrev Answers : List ((List ℕ × ℕ) × Reading) → Type 0
+Answers rows = map (λ (r : (List ℕ × ℕ) × Reading). answerIn (r .0)) rows ≡ map (λ (r : (List ℕ × ℕ) × Reading). r .1) rows
+
+pub two-faults : Answers (
+    ((replicate 12289 128, 0), Refused TextTooLong) ∷
+    ((bytes "\\fs1e2" ++ (128 ∷ []), 0), Refused (NotAscii 6)) ∷
+    ((bytes farFade ++ bytes "\\fs1e2", 1024), Refused (NumeralTooLong 32)) ∷
+    ((bytes farFade ++ bytes "\\fs1e2", 0), Refused (NumeralTooLong 32)) ∷
+    ((bytes "\\fs1e2\\i1", 0), Refused (NumeralTooLong 3)) ∷
+    ((bytes "\\i1" ++ bytes farFade, 0), Refused (FadeTooFar 3)) ∷
+    ((bytes "\\i1\\b1", 1), Refused (NoRoom 2)) ∷
+    [])
+unfolding round toBits toSigned span back skip skipBack blankAt blankBefore closing maxZero roundAway roundByte value wholeNumber i32Of hexAt splitAt exponentAt floatOf f32Of trimmed ampersands zeroXAt digits alphaAt colourAt split append records encode count names lookup key keyAt part f32s i32s allFloats floatsIn allInts intsIn firstLong pairOf moveOf fadOf fadeOf rangedOf weightOf flagOf clipOf resetOf shaped isFn isNamedReset plainAt paramAt peel tagAt walk parse textGround readGround answer
+two-faults = refl

@@ -1,3 +1,5 @@
 pub mod Table
 pub mod Written
 pub mod Tags
+pub mod Formed
+pub mod Decoding

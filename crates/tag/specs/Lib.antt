@@ -1,3 +1,6 @@
 pub mod Tag
 pub mod Table
 pub mod Range
+pub mod WellFormed
+pub mod Decode
+pub mod Sheet

@@ -2,6 +2,7 @@ use mathlib.Core.Path.{_≡_, refl, sym, _∙_, ap}
 use Prim.Native.Nat.{ℕ, _+_, _-_, _*_, _≤_, _<_}
 use native.Mathlib.Omega.{arith}
 use borrow.Author.Needs.{needs}
+use Rattle.tag.specs.Tag.{count}
 use Rattle.tag.specs.Table.{encode, laid}
 use Rattle.plain.specs.Names.{keyAt, tKey}
 use Rattle.read.specs.Block.{parse}
@@ -331,7 +332,7 @@ parse-overrides-depth-returns t c =
     turning-end (rw k at (l .inv .3)) (search needs)
 
 parse-t-returns : (t : ℕ) → parse-t-lts.Need-returns (calls-t t) (parse-t-at t) parse-t.Post
-unfolding encode laid
+unfolding encode laid count
 parse-t-returns t c = rw (t-none _ _ _ _ (c .if1 .taken)) (record { out = refl; table = refl; few = search needs })
 
 parse-t-peel-requires : (t : ℕ) → parse-t-lts.Need-peel-requires (calls-t t) (parse-t-at t) parse-t.Post
