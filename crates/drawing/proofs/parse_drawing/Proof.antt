@@ -48,7 +48,7 @@ same-length-2 : tie.Need-same-length-2
 same-length-2 c = search needs
 
 returns-4 : tie.Need-returns-4
-returns-4 c = many-drawn _ _ _ (c .before .before .before .before .before .before .before .before .before .before .before .draw-few .ensures) _ (c .before .before .before .before .before .before .before .answer2 .given .1) (c .before .before .before .before .before .if2 .taken) (c .before .before .draw .ensures .0) (c .before .before .before .before .scale-of .ensures) (c .before .before .draw .ensures .1)
+returns-4 c = many-drawn _ _ _ (c .before .before .before .before .before .before .before .before .before .before .before .draw-few .ensures) _ (c .before .before .before .before .before .before .before .answer2 .given .1) (c .before .before .before .before .before .if2 .taken) (c .before .before .before .before .scale-of .ensures) (c .before .before .draw .ensures)
 
 same-length-3 : tie.Need-same-length-3
 same-length-3 c = search needs
