@@ -266,8 +266,8 @@ fn bare_turn(
     }
 }
 
-// One token, from i on, that ends at k.
-fn turn(
+// One token, from i on, that ends at k, by its kind.
+fn token_turn(
     text: &[u8],
     t: Token,
     i: usize,
@@ -286,6 +286,55 @@ fn turn(
         Token::Refused(_) => bare_turn(text, t, i, k, scale, pen, n, path),
         Token::Other => bare_turn(text, t, i, k, scale, pen, n, path),
     }
+}
+
+// One token, from i on, that ends at k.
+fn turn(
+    text: &[u8],
+    t: Token,
+    i: usize,
+    k: usize,
+    scale: f32,
+    pen: Pen,
+    n: usize,
+    path: &mut [u32],
+) -> Stand
+    requires { ⌜ NextIs (now text) i t k × (n < 65000) ⌝ }
+    ensures { λ r. ⌜ Turns (now (text .entry)) (now (path .entry)) n (turnOf t scale pen (tokensFrom (now (text .entry)) i) (tokensFrom (now (text .entry)) k)) (i + 1) r (now (path .exit)) ⌝ }
+{
+    let mode = pen.mode;
+    // A line's point at once: most tokens of a drawing are such, and the way by `token_turn` hands the pen through four calls.
+    if let Mode::Lines = mode {
+        let read = point_from(text, t, k, scale);
+        if let OnePoint::At(p, next) = read {
+            let m = line_to(p, n, path);
+            let after = Pen {
+                cur: p,
+                opened: true,
+                mode: Mode::Lines,
+            };
+            return Stand {
+                pen: after,
+                n: m,
+                next,
+            };
+        }
+    }
+    // A spline's point at once, for the same reason.
+    if let Mode::Spline(ctrl) = mode {
+        let read = point_from(text, t, k, scale);
+        if let OnePoint::At(p, next) = read {
+            let cur = pen.cur;
+            let s = spline_point(cur, pen.opened, ctrl, p, n, path);
+            let after = s.pen;
+            return Stand {
+                pen: after,
+                n: s.n,
+                next,
+            };
+        }
+    }
+    token_turn(text, t, i, k, scale, pen, n, path)
 }
 
 // Ground 3 in what one turn passes over: the token t, which ends at k, and what it takes with it.
@@ -331,53 +380,18 @@ pub fn draw(text: &[u8], scale: f32, path: &mut [u32]) -> Traced
     loop {
         let i = at.next;
         let next = tokens::next_token(text, i);
-        match next {
-            Next::End => {
-                return Traced {
-                    ground: Checked::Good,
-                    n: at.n,
-                };
-            }
-            Next::Is(t, k) => {
-                let ground = turn_ground(text, t, k);
-                let Checked::Good = ground else {
-                    return Traced { ground, n: 0 };
-                };
-                let pen = at.pen;
-                let mode = pen.mode;
-                if let Mode::Lines = mode {
-                    let read = point_from(text, t, k, scale);
-                    if let OnePoint::At(p, next) = read {
-                        let m = line_to(p, at.n, path);
-                        at = Stand {
-                            pen: Pen {
-                                cur: p,
-                                opened: true,
-                                mode: Mode::Lines,
-                            },
-                            n: m,
-                            next,
-                        };
-                        continue;
-                    }
-                }
-                if let Mode::Spline(ctrl) = mode {
-                    let read = point_from(text, t, k, scale);
-                    if let OnePoint::At(p, next) = read {
-                        let cur = pen.cur;
-                        let s = spline_point(cur, pen.opened, ctrl, p, at.n, path);
-                        let drawn = s.pen;
-                        at = Stand {
-                            pen: drawn,
-                            n: s.n,
-                            next,
-                        };
-                        continue;
-                    }
-                }
-                let after = turn(text, t, i, k, scale, pen, at.n, path);
-                at = after;
-            }
-        }
+        let Next::Is(t, k) = next else {
+            return Traced {
+                ground: Checked::Good,
+                n: at.n,
+            };
+        };
+        let ground = turn_ground(text, t, k);
+        let Checked::Good = ground else {
+            return Traced { ground, n: 0 };
+        };
+        let pen = at.pen;
+        let after = turn(text, t, i, k, scale, pen, at.n, path);
+        at = after;
     }
 }
