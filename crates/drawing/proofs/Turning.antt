@@ -2,14 +2,18 @@
 use mathlib.Core.Path.{_≡_, refl, sym, subst}
 use mathlib.Core.List.{List, [], _∷_}
 use mathlib.Core.Bool.{Bool, true, false}
+use mathlib.Core.Logic.{⊎-elim}
 use Prim.Native.Nat.{ℕ, _+_, _≤_, _<_}
 use native.Mathlib.Omega.{arith}
 use lib.Ieee.{Float}
 use lib.ListN.{length}
+use types.Run.{OneOf}
+use denote.Enum.Declared.{tagOf}
 use Rattle.scan.specs.Scan.{pick}
 use Rattle.tag.specs.declared.Record.{Record}
 use Rattle.tokens.specs.declared.Token.{Token}
 use Rattle.tokens.specs.declared.Token.the-variants.{Letter, Number, Refused, Other}
+use Rattle.tokens.proofs.Token.{the-type}
 use Rattle.tokens.specs.Tokens.{from}
 use Rattle.tokens.specs.Inner.{NextIs}
 use Rattle.drawing.specs.declared.points.Point.{Point}
@@ -34,11 +38,12 @@ use Rattle.drawing.proofs.Reading.{point-from, point-is, point-none}
 pub turn-none : {s : List ℕ} {i j : ℕ} (t : List ℕ) (n : ℕ) (pen : Pen) → i ≤ j → j ≤ length s → Turns s t n (turned pen [] (from s j)) i (record { pen = pen; n = n; next = j }) t
 turn-none t n pen a b = record { pen = refl; emits = emits-none t n; few = omega arith; rest = refl; low = a; high = b }
 
-module _ {s : List ℕ} {k : Float} {i j : ℕ} {t : List ℕ} {n : ℕ} (pen : Pen) (a : i < j) (b : j ≤ length s) where
+-- a token x that is no letter, from i to j
+module _ {s : List ℕ} {i j : ℕ} {x : Token} (v : NextIs s i x j) {t : List ℕ} {n : ℕ} {k : Float} (pen : Pen) where
   pub curve-none : {r : ThreePoints} → ReadsThree s k i r → r ≡ NoThree → Turns s t n (curve k pen (from s i) (from s j)) (i + 1) (record { pen = pen; n = n; next = j }) t
   curve-none {r} f q =
       let g : ReadsThree s k i NoThree = rw q at f in
-      rw (g .is) (turn-none t n pen (omega arith) b)
+      rw (g .is) (turn-none t n pen (omega (arith, v .low)) (v .high))
 
   pub curve-some : {r : ThreePoints} {p q o : Point} {l m : ℕ} {u : List ℕ} → ReadsThree s k i r → r ≡ ThreeAt p q o l → Emits t n (cubicTo p q o ∷ []) m u
       → Turns s t n (curve k pen (from s i) (from s j)) (i + 1) (record { pen = penOf o true Cubics; n = m; next = l }) u
@@ -47,55 +52,49 @@ module _ {s : List ℕ} {k : Float} {i j : ℕ} {t : List ℕ} {n : ℕ} (pen : 
       let c = g .place .0 in
       rw (g .is) (record { pen = refl; emits = w; few = omega (arith, w .count); rest = refl; low = omega arith; high = g .place .1 })
 
-  pub pointed-none : {r : OnePoint} {pen′ : Pen} → ReadsPoint s k i r → r ≡ NoPoint → pen′ ≡ settled pen → Turns s t n (pointed k pen (from s i) (from s j)) (i + 1) (record { pen = pen′; n = n; next = j }) t
-  pointed-none f q e = rw (point-none f q, e) (turn-none t n (settled pen) (omega arith) b)
+  module _ {r : OnePoint} (f : PointFrom s k x j r) where
+    pointed-none : {pen′ : Pen} → r ≡ NoPoint → pen′ ≡ settled pen → Turns s t n (pointed k pen (from s i) (from s j)) (i + 1) (record { pen = pen′; n = n; next = j }) t
+    pointed-none q e = rw (point-none (point-from k v f) q, e) (turn-none t n (settled pen) (omega (arith, v .low)) (v .high))
 
-  pub pointed-some : {r : OnePoint} {p : Point} {l : ℕ} {x : Stroke} {u : List ℕ} → ReadsPoint s k i r → r ≡ PointAt p l → Stroked t n (onPoint pen p) x u
-      → Turns s t n (pointed k pen (from s i) (from s j)) (i + 1) (record { pen = x .pen; n = x .n; next = l }) u
-  pointed-some f q w =
-      let g = point-is f q in
-      let c = g .low in
-      rw (g .is) (record { pen = w .pen; emits = w .emits; few = w .few; rest = refl; low = omega arith; high = g .high })
+    pointed-some : {p : Point} {l : ℕ} {y : Stroke} {u : List ℕ} → r ≡ PointAt p l → Stroked t n (onPoint pen p) y u
+        → Turns s t n (pointed k pen (from s i) (from s j)) (i + 1) (record { pen = y .pen; n = y .n; next = l }) u
+    pointed-some q w =
+        let g = point-is (point-from k v f) q in
+        let c = g .low in
+        rw (g .is) (record { pen = w .pen; emits = w .emits; few = w .few; rest = refl; low = omega arith; high = g .high })
+
+    module _ (e : pen .mode ≡ Lines) where
+      pub line-none : r ≡ NoPoint → Turns s t n (pointed k pen (from s i) (from s j)) (i + 1) (record { pen = pen; n = n; next = j }) t
+      line-none q = pointed-none q (rw e)
+
+      pub line-some : {p : Point} {l m : ℕ} {u : List ℕ} → r ≡ PointAt p l → Emits t n (lineTo p ∷ []) m u
+          → Turns s t n (pointed k pen (from s i) (from s j)) (i + 1) (record { pen = penOf p true Lines; n = m; next = l }) u
+      line-some {p} {l} {m} {u} q w =
+          let y : Stroke = record { pen = penOf p true Lines; n = m } in
+          let z : Stroked t n (onPoint pen p) y u = rw e (record { pen = refl; emits = w; few = omega (arith, w .count) }) in
+          pointed-some q z
+
+    module _ {c : Ctrl} (e : pen .mode ≡ Spline c) where
+      pub spline-none : {pen′ : Stand} → r ≡ NoPoint → pen′ ≡ record { pen = penOf (pen .cur) (pen .opened) Idle; n = n; next = j } → Turns s t n (pointed k pen (from s i) (from s j)) (i + 1) pen′ t
+      spline-none q h = rw h (pointed-none q (rw e))
+
+      pub spline-some : {p : Point} {l : ℕ} {y : Stroke} {u : List ℕ} → r ≡ PointAt p l → Stroked t n (splinePoint (pen .cur) (pen .opened) c p) y u
+          → Turns s t n (pointed k pen (from s i) (from s j)) (i + 1) (record { pen = y .pen; n = y .n; next = l }) u
+      spline-some {p} {l} {y} {u} q w =
+          let z : Stroked t n (onPoint pen p) y u = rw e w in
+          pointed-some q z
 
 -- a token that is no letter, by the pen's mode
 module _ {s : List ℕ} {i : ℕ} {t : List ℕ} {n : ℕ} {r : Stand} {u : List ℕ} (k : Float) (pen : Pen) (all ts : List Token) (m : Mode) where
   pub bare-by : pen .mode ≡ m → Turns s t n (bareBy m k pen all ts) i r u → Turns s t n (bareTurn k pen all ts) i r u
   bare-by e w = subst (λ (x : Mode). Turns s t n (bareBy x k pen all ts) i r u) (sym e) w
 
--- a point that begins with the token x, in a mode that takes points
-abbrev pub takes-points : Mode → Type 0
-takes-points Idle = ⊥
-takes-points Lines = Unit
-takes-points Cubics = ⊥
-takes-points (Spline c) = Unit
-
-pointed-by : (s t u : List ℕ) (i j n : ℕ) (k : Float) (pen : Pen) (x : Stand) (m : Mode) → takes-points m → Turns s t n (pointed k pen (from s i) (from s j)) (i + 1) x u → Turns s t n (bareBy m k pen (from s i) (from s j)) (i + 1) x u
-pointed-by s t u i j n k pen x Idle h w = absurd h
-pointed-by s t u i j n k pen x Lines h w = w
-pointed-by s t u i j n k pen x Cubics h w = absurd h
-pointed-by s t u i j n k pen x (Spline c) h w = w
-
-module _ {s : List ℕ} {i j : ℕ} {t : List ℕ} {n : ℕ} {u : List ℕ} (k : Float) (pen : Pen) where
-  pub point-turned : {p : Point} {l : ℕ} {x : Stroke} (y : Token) (r : OnePoint) (m : Mode) → takes-points m → NextIs s i y j → pen .mode ≡ m → PointFrom s k y j r → r ≡ PointAt p l → Stroked t n (byMode m pen p) x u
-      → Turns s t n (turnOf y k pen (from s i) (from s j)) (i + 1) (record { pen = x .pen; n = x .n; next = l }) u
-  point-turned {p} {l} {x} (Number z) r m h v e f q w =
-      let g : ReadsPoint s k i r = point-from k v f in
-      let o : Stroked t n (onPoint pen p) x u = subst (λ (y : Mode). Stroked t n (byMode y pen p) x u) (sym e) w in
-      bare-by k pen (from s i) (from s j) m e (pointed-by s t u i j n k pen _ m h (pointed-some pen (v .low) (v .high) g q o))
-  point-turned (Letter b) r m h v e f q w = absurd (let z : _≡_ {A = ℕ} 0 1 = cc (rw q at (f .is)) in omega arith)
-  point-turned (Refused b) r m h v e f q w = absurd (let z : _≡_ {A = ℕ} 0 1 = cc (rw q at (f .is)) in omega arith)
-  point-turned Other r m h v e f q w = absurd (let z : _≡_ {A = ℕ} 0 1 = cc (rw q at (f .is)) in omega arith)
-
-pub line-turned : {s : List ℕ} {i j : ℕ} {t : List ℕ} {n : ℕ} {p : Point} {l m : ℕ} {u : List ℕ} (k : Float) (pen : Pen) (x : Token) (r : OnePoint) → NextIs s i x j → pen .mode ≡ Lines → PointFrom s k x j r → r ≡ PointAt p l → Emits t n (lineTo p ∷ []) m u
-    → Turns s t n (turnOf x k pen (from s i) (from s j)) (i + 1) (record { pen = penOf p true Lines; n = m; next = l }) u
-line-turned {s} {i} {j} {t} {n} {p} {l} {m} {u} k pen x r v e f q w =
-    let o : Stroke = record { pen = penOf p true Lines; n = m } in
-    let z : Stroked t n (byMode Lines pen p) o u = record { pen = refl; emits = w; few = omega (arith, w .count) } in
-    point-turned k pen x r Lines tt v e f q z
-
-pub spline-turned : {s : List ℕ} {i j : ℕ} {t : List ℕ} {n : ℕ} {p : Point} {l : ℕ} {o : Stroke} {u : List ℕ} (k : Float) (pen : Pen) (x : Token) (r : OnePoint) (c : Ctrl) → NextIs s i x j → pen .mode ≡ Spline c → PointFrom s k x j r → r ≡ PointAt p l
-    → Stroked t n (splinePoint (pen .cur) (pen .opened) c p) o u → Turns s t n (turnOf x k pen (from s i) (from s j)) (i + 1) (record { pen = o .pen; n = o .n; next = l }) u
-spline-turned k pen x r c v e f q w = point-turned k pen x r (Spline c) tt v e f q w
+-- a token that is no letter
+pub bare-turned : {s : List ℕ} {i : ℕ} {t : List ℕ} {n : ℕ} {r : Stand} {u : List ℕ} (k : Float) (pen : Pen) (all ts : List Token) (x : Token) → OneOf (1 ∷ 2 ∷ 3 ∷ []) (tagOf the-type x) → Turns s t n (bareTurn k pen all ts) i r u → Turns s t n (turnOf x k pen all ts) i r u
+bare-turned k pen all ts (Letter b) h w = absurd (⊎-elim (λ z. omega arith) (λ h. ⊎-elim (λ z. omega arith) (λ z. omega arith) h) h)
+bare-turned k pen all ts (Number x) h w = w
+bare-turned k pen all ts (Refused p) h w = w
+bare-turned k pen all ts Other h w = w
 
 module _ {s : List ℕ} {k : Float} {i : ℕ} {t : List ℕ} {n : ℕ} (closes : Bool) (pen : Pen) where
   pub moves-none : {r : OnePoint} → ReadsPoint s k i r → r ≡ NoPoint → i ≤ length s → Turns s t n (movesTo closes k pen (from s i)) i (record { pen = pen; n = n; next = i }) t

@@ -7,6 +7,7 @@ ghost use lib.ListN.{length};
 ghost use Rattle.scan.specs.Scan.{pick};
 ghost use Rattle.tokens.specs.Tokens.{from as tokensFrom};
 ghost use Rattle.tokens.specs.Inner.{NextIs};
+ghost use Rattle.drawing.specs.declared.pen.Mode.the-variants.{Lines, Spline};
 ghost use Rattle.drawing.specs.Drawing.{commandOf, continues as continuesAt, letterTurn, bareTurn, turnOf, curve, pointed, command as commandTurn, movesTo};
 ghost use Rattle.drawing.specs.Inner.{standAt, Turns, Passes, Traces};
 use crate::path::close;
@@ -16,7 +17,6 @@ use crate::path::move_to;
 use crate::pen::Ctrl;
 use crate::pen::Mode;
 use crate::pen::Pen;
-use crate::pen::on_point;
 use crate::pen::settled;
 use crate::pen::spline_point;
 use crate::points::OnePoint;
@@ -212,8 +212,8 @@ fn curve_turn(
     }
 }
 
-// A point from i on, where the token that ends at k stands.
-fn point_turn(
+// A line to the point from i on, where the token that ends at k stands; without a point only that token is passed over.
+fn line_turn(
     text: &[u8],
     t: Token,
     i: usize,
@@ -223,18 +223,46 @@ fn point_turn(
     n: usize,
     path: &mut [u32],
 ) -> Stand
-    requires { ⌜ NextIs (now text) i t k × (n < 65000) ⌝ }
+    requires { ⌜ NextIs (now text) i t k × (n < 65000) × (pen .mode ≡ Lines) ⌝ }
     ensures { λ r. ⌜ Turns (now (text .entry)) (now (path .entry)) n (pointed scale pen (tokensFrom (now (text .entry)) i) (tokensFrom (now (text .entry)) k)) (i + 1) r (now (path .exit)) ⌝ }
 {
     let read = point_from(text, t, k, scale);
     let OnePoint::At(p, next) = read else {
-        return Stand {
-            pen: settled(pen),
-            n,
-            next: k,
-        };
+        return Stand { pen, n, next: k };
     };
-    let s = on_point(pen, p, n, path);
+    let m = line_to(p, n, path);
+    Stand {
+        pen: Pen {
+            cur: p,
+            opened: true,
+            mode: Mode::Lines,
+        },
+        n: m,
+        next,
+    }
+}
+
+// A spline's control point from i on, where the token that ends at k stands; without a point the spline takes no further ones.
+fn spline_turn(
+    text: &[u8],
+    t: Token,
+    i: usize,
+    k: usize,
+    scale: f32,
+    pen: Pen,
+    ctrl: Ctrl,
+    n: usize,
+    path: &mut [u32],
+) -> Stand
+    requires { ⌜ NextIs (now text) i t k × (n < 65000) × (pen .mode ≡ Spline ctrl) ⌝ }
+    ensures { λ r. ⌜ Turns (now (text .entry)) (now (path .entry)) n (pointed scale pen (tokensFrom (now (text .entry)) i) (tokensFrom (now (text .entry)) k)) (i + 1) r (now (path .exit)) ⌝ }
+{
+    let cur = pen.cur;
+    let read = point_from(text, t, k, scale);
+    let OnePoint::At(p, next) = read else {
+        return stand_at(cur, pen.opened, Mode::Idle, n, k);
+    };
+    let s = spline_point(cur, pen.opened, ctrl, p, n, path);
     let after = s.pen;
     Stand {
         pen: after,
@@ -260,31 +288,9 @@ fn bare_turn(
     let mode = pen.mode;
     match mode {
         Mode::Idle => Stand { pen, n, next: k },
-        Mode::Lines => point_turn(text, t, i, k, scale, pen, n, path),
+        Mode::Lines => line_turn(text, t, i, k, scale, pen, n, path),
         Mode::Cubics => curve_turn(text, t, i, k, scale, pen, n, path),
-        Mode::Spline(_) => point_turn(text, t, i, k, scale, pen, n, path),
-    }
-}
-
-// One token, from i on, that ends at k, by its kind.
-fn token_turn(
-    text: &[u8],
-    t: Token,
-    i: usize,
-    k: usize,
-    scale: f32,
-    pen: Pen,
-    n: usize,
-    path: &mut [u32],
-) -> Stand
-    requires { ⌜ NextIs (now text) i t k × (n < 65000) ⌝ }
-    ensures { λ r. ⌜ Turns (now (text .entry)) (now (path .entry)) n (turnOf t scale pen (tokensFrom (now (text .entry)) i) (tokensFrom (now (text .entry)) k)) (i + 1) r (now (path .exit)) ⌝ }
-{
-    match t {
-        Token::Letter(b) => letter_turn(text, b, k, scale, pen, n, path),
-        Token::Number(_) => bare_turn(text, t, i, k, scale, pen, n, path),
-        Token::Refused(_) => bare_turn(text, t, i, k, scale, pen, n, path),
-        Token::Other => bare_turn(text, t, i, k, scale, pen, n, path),
+        Mode::Spline(ctrl) => spline_turn(text, t, i, k, scale, pen, ctrl, n, path),
     }
 }
 
@@ -302,39 +308,10 @@ fn turn(
     requires { ⌜ NextIs (now text) i t k × (n < 65000) ⌝ }
     ensures { λ r. ⌜ Turns (now (text .entry)) (now (path .entry)) n (turnOf t scale pen (tokensFrom (now (text .entry)) i) (tokensFrom (now (text .entry)) k)) (i + 1) r (now (path .exit)) ⌝ }
 {
-    let mode = pen.mode;
-    // A line's point at once: most tokens of a drawing are such, and the way by `token_turn` hands the pen through four calls.
-    if let Mode::Lines = mode {
-        let read = point_from(text, t, k, scale);
-        if let OnePoint::At(p, next) = read {
-            let m = line_to(p, n, path);
-            let after = Pen {
-                cur: p,
-                opened: true,
-                mode: Mode::Lines,
-            };
-            return Stand {
-                pen: after,
-                n: m,
-                next,
-            };
-        }
-    }
-    // A spline's point at once, for the same reason.
-    if let Mode::Spline(ctrl) = mode {
-        let read = point_from(text, t, k, scale);
-        if let OnePoint::At(p, next) = read {
-            let cur = pen.cur;
-            let s = spline_point(cur, pen.opened, ctrl, p, n, path);
-            let after = s.pen;
-            return Stand {
-                pen: after,
-                n: s.n,
-                next,
-            };
-        }
-    }
-    token_turn(text, t, i, k, scale, pen, n, path)
+    let Token::Letter(b) = t else {
+        return bare_turn(text, t, i, k, scale, pen, n, path);
+    };
+    letter_turn(text, b, k, scale, pen, n, path)
 }
 
 // Ground 3 in what one turn passes over: the token t, which ends at k, and what it takes with it.

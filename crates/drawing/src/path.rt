@@ -12,7 +12,7 @@ pub fn least(a: usize, b: usize) -> usize
     if a <= b { a } else { b }
 }
 
-// Writes a command behind the n that there are, where there is room for it.
+// Writes a command behind the n that there are, where there is room for it. There are far fewer than 65,536: a text has at most 12,288 bytes, and each gives at most two.
 fn emit(r: tag::Record, n: usize, path: &mut [u32]) -> usize
     requires { ⌜ n < 65536 ⌝ }
     ensures { λ m. ⌜ Emits (now (path .entry)) n (r ∷ []) m (now (path .exit)) ⌝ }

@@ -2,7 +2,7 @@
 ghost use mathlib.Core.Path.{_≡_};
 ghost use mathlib.Core.List.{[], _∷_};
 ghost use Prim.Native.Nat.{_<_};
-ghost use Rattle.drawing.specs.Drawing.{bez as bezOf, spanOf, spanGives, splinePoint, onPoint, settled as settledPen};
+ghost use Rattle.drawing.specs.Drawing.{bez as bezOf, spanOf, spanGives, splinePoint, settled as settledPen};
 ghost use Rattle.drawing.specs.Inner.{Emits, Stroked};
 use crate::path::cubic_to;
 use crate::path::line_to;
@@ -108,33 +108,6 @@ pub fn spline_point(
             spline_span(b, c, p, m, path)
         }
         Ctrl::Span(b, c) => spline_span(b, c, p, n, path),
-    }
-}
-
-// A point without a letter.
-pub fn on_point(pen: Pen, p: Point, n: usize, path: &mut [u32]) -> Stroke
-    requires { ⌜ n < 65000 ⌝ }
-    ensures { λ r. ⌜ Stroked (now (path .entry)) n (onPoint pen p) r (now (path .exit)) ⌝ }
-{
-    let mode = pen.mode;
-    match mode {
-        Mode::Idle => Stroke { pen, n },
-        Mode::Cubics => Stroke { pen, n },
-        Mode::Lines => {
-            let m = line_to(p, n, path);
-            Stroke {
-                pen: Pen {
-                    cur: p,
-                    opened: true,
-                    mode: Mode::Lines,
-                },
-                n: m,
-            }
-        }
-        Mode::Spline(ctrl) => {
-            let cur = pen.cur;
-            spline_point(cur, pen.opened, ctrl, p, n, path)
-        }
     }
 }
 

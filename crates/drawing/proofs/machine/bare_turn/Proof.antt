@@ -9,8 +9,8 @@ enum-told c = search needs
 enum-told-2 : tie.Need-enum-told-2
 enum-told-2 c = search needs
 
-point-turn-requires : tie.Need-point-turn-requires
-point-turn-requires c κs = search needs
+line-turn-requires : tie.Need-line-turn-requires
+line-turn-requires c κs = search needs
 
 enum-told-3 : tie.Need-enum-told-3
 enum-told-3 c = search needs
@@ -18,11 +18,11 @@ enum-told-3 c = search needs
 curve-turn-requires : tie.Need-curve-turn-requires
 curve-turn-requires c κs = search needs
 
-enum-told-4 : tie.Need-enum-told-4
-enum-told-4 c = search needs
+enum-known-mode : tie.Need-enum-known-mode
+enum-known-mode c = search needs
 
-point-turn-requires-2 : tie.Need-point-turn-requires-2
-point-turn-requires-2 c κs = search needs
+spline-turn-requires : tie.Need-spline-turn-requires
+spline-turn-requires c κs = search needs
 
 returns : tie.Need-returns
 returns c = bare-by _ _ _ _ _ (c .enum-told .given .1) (turn-none _ _ _ (search needs) (search needs))
@@ -31,7 +31,7 @@ same-length : tie.Need-same-length
 same-length c = search needs
 
 returns-2 : tie.Need-returns-2
-returns-2 c = bare-by _ _ _ _ _ (c .before .before .before .before .enum-told2 .given .1) (c .before .before .point-turn .ensures)
+returns-2 c = bare-by _ _ _ _ _ (c .before .before .before .before .enum-told2 .given .1) (c .before .before .line-turn .ensures)
 
 same-length-2 : tie.Need-same-length-2
 same-length-2 c = search needs
@@ -43,7 +43,7 @@ same-length-3 : tie.Need-same-length-3
 same-length-3 c = search needs
 
 returns-4 : tie.Need-returns-4
-returns-4 c = bare-by _ _ _ _ _ (c .before .before .before .before .enum-told4 .given .1) (c .before .before .point-turn2 .ensures)
+returns-4 c = bare-by _ _ _ _ _ (c .before .before .before .before .before .mode .given .1) (c .before .before .spline-turn .ensures)
 
 pub bare-turn-spec : {M : Type 1} → statement M
 bare-turn-spec =
@@ -51,11 +51,11 @@ bare-turn-spec =
     (tie.spec
     enum-told
     enum-told-2
-    point-turn-requires
+    line-turn-requires
     enum-told-3
     curve-turn-requires
-    enum-told-4
-    point-turn-requires-2
+    enum-known-mode
+    spline-turn-requires
     returns
     same-length
     returns-2

@@ -13,7 +13,7 @@ enum-told : tie.Need-enum-told
 enum-told c = search needs
 
 returns : tie.Need-returns
-returns c = curve-none _ (search needs) (search needs) (c .before .before .read-three-points .ensures) (c .enum-told .given .1)
+returns c = curve-none (c .before .before .before .before .before .pre .0) _ (c .before .before .read-three-points .ensures) (c .enum-told .given .1)
 
 cubic-to-requires : tie.Need-cubic-to-requires
 cubic-to-requires c κs = search needs
@@ -22,7 +22,7 @@ same-length : tie.Need-same-length
 same-length c = search needs
 
 returns-2 : tie.Need-returns-2
-returns-2 c = curve-some _ (search needs) (search needs) (c .before .before .before .before .before .before .before .read-three-points .ensures) (c .before .before .before .before .before .read .given .1) (c .before .before .cubic-to .ensures)
+returns-2 c = curve-some (c .before .before .before .before .before .before .before .before .before .before .pre .0) _ (c .before .before .before .before .before .before .before .read-three-points .ensures) (c .before .before .before .before .before .read .given .1) (c .before .before .cubic-to .ensures)
 
 pub curve-turn-spec : {M : Type 1} → statement M
 curve-turn-spec =
