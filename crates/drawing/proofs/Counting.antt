@@ -103,7 +103,7 @@ bare-counts Lines k pen t ts = pointed-counts pen (readPoint k (t ∷ ts)) ts (r
 bare-counts Cubics k pen t ts = curve-counts pen (readThree k (t ∷ ts)) ts (three-shorter k (t ∷ ts))
 bare-counts (Spline c) k pen t ts = pointed-counts pen (readPoint k (t ∷ ts)) ts (read-shorter k (t ∷ ts))
 
-closing-one : (a b : Bool) → length (closesFirst a b) ≤ 1
+pub closing-one : (a b : Bool) → length (closesFirst a b) ≤ 1
 closing-one false b = omega arith
 closing-one true false = omega arith
 closing-one true true = omega arith

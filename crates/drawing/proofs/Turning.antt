@@ -9,7 +9,6 @@ use lib.Ieee.{Float}
 use lib.ListN.{length}
 use types.Run.{OneOf}
 use denote.Enum.Declared.{tagOf}
-use Rattle.scan.specs.Scan.{pick}
 use Rattle.tag.specs.declared.Record.{Record}
 use Rattle.tokens.specs.declared.Token.{Token}
 use Rattle.tokens.specs.declared.Token.the-variants.{Letter, Number, Refused, Other}
@@ -28,10 +27,10 @@ use Rattle.drawing.specs.declared.pen.Pen.{Pen}
 use Rattle.drawing.specs.declared.pen.Stroke.{Stroke}
 use Rattle.drawing.specs.declared.machine.Stand.{Stand}
 use Rattle.drawing.specs.declared.machine.Command.{Command}
-use Rattle.drawing.specs.Drawing.{lineTo, moveTo, cubicTo, closed, Turn, turned, penOf, byMode, onPoint, splinePoint, settled, pointed, curve, bareBy, bareTurn, continues, command, commandOf, letterTurn, turnOf, movesTo}
+use Rattle.drawing.specs.Drawing.{lineTo, moveTo, cubicTo, closesFirst, Turn, turned, penOf, byMode, onPoint, splinePoint, settled, pointed, curve, bareBy, bareTurn, continues, command, commandOf, letterTurn, turnOf, movesTo}
 use Rattle.drawing.specs.Inner.{Emits, PointFrom, ReadsPoint, ReadsThree, Stroked, Turns}
 use Rattle.drawing.proofs.Emitting.{emits-none, emits-join}
-use Rattle.drawing.proofs.Counting.{left, left-turn}
+use Rattle.drawing.proofs.Counting.{closing-one, left, left-turn}
 use Rattle.drawing.proofs.Reading.{point-from, point-is, point-none}
 
 -- nothing is drawn, and the tokens from j on are left
@@ -100,19 +99,13 @@ module _ {s : List ℕ} {k : Float} {i : ℕ} {t : List ℕ} {n : ℕ} (closes :
   pub moves-none : {r : OnePoint} → ReadsPoint s k i r → r ≡ NoPoint → i ≤ length s → Turns s t n (movesTo closes k pen (from s i)) i (record { pen = pen; n = n; next = i }) t
   moves-none f q b = rw (point-none f q) (turn-none t n pen (omega arith) b)
 
-  pub moves-plain : {r : OnePoint} {p : Point} {l m : ℕ} {u : List ℕ} → ReadsPoint s k i r → r ≡ PointAt p l → pick closes (pen .opened) false ≡ false → Emits t n (moveTo p ∷ []) m u
-      → Turns s t n (movesTo closes k pen (from s i)) i (record { pen = penOf p false Lines; n = m; next = l }) u
-  moves-plain f q e w =
-      let g = point-is f q in
-      let c = g .low in
-      rw (g .is, e) (record { pen = refl; emits = w; few = omega (arith, w .count); rest = refl; low = omega arith; high = g .high })
-
-  pub moves-shut : {r : OnePoint} {p : Point} {l m h : ℕ} {u v : List ℕ} → ReadsPoint s k i r → r ≡ PointAt p l → pick closes (pen .opened) false ≡ true → Emits t n (closed ∷ []) m u → Emits u m (moveTo p ∷ []) h v
+  pub moves-some : {r : OnePoint} {p : Point} {l m h : ℕ} {u v : List ℕ} → ReadsPoint s k i r → r ≡ PointAt p l → Emits t n (closesFirst closes (pen .opened)) m u → Emits u m (moveTo p ∷ []) h v
       → Turns s t n (movesTo closes k pen (from s i)) i (record { pen = penOf p false Lines; n = h; next = l }) v
-  moves-shut f q e w x =
+  moves-some f q w x =
       let g = point-is f q in
       let c = g .low in
-      rw (g .is, e) (record { pen = refl; emits = emits-join w x; few = omega (arith, w .count, x .count); rest = refl; low = omega arith; high = g .high })
+      let o = closing-one closes (pen .opened) in
+      rw (g .is) (record { pen = refl; emits = emits-join w x; few = omega (arith, w .count, x .count); rest = refl; low = omega arith; high = g .high })
 
 -- a letter that does not continue a spline
 module _ {s : List ℕ} {i : ℕ} {t : List ℕ} {n : ℕ} {r : Stand} {u : List ℕ} (b : ℕ) (k : Float) (pen : Pen) (ts : List Token) where

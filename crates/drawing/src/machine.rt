@@ -1,16 +1,15 @@
 // The machine that takes a drawing's tokens one after the other: what each token does, and the loop over them.
 ghost use mathlib.Core.Path.{_≡_};
 ghost use mathlib.Core.List.{_∷_};
-ghost use mathlib.Core.Bool.{false};
 ghost use Prim.Native.Nat.{_+_, _≤_, _<_};
 ghost use lib.ListN.{length};
-ghost use Rattle.scan.specs.Scan.{pick};
 ghost use Rattle.tokens.specs.Tokens.{from as tokensFrom};
 ghost use Rattle.tokens.specs.Inner.{NextIs};
 ghost use Rattle.drawing.specs.declared.pen.Mode.the-variants.{Lines, Spline};
 ghost use Rattle.drawing.specs.Drawing.{commandOf, continues as continuesAt, letterTurn, bareTurn, turnOf, curve, pointed, command as commandTurn, movesTo};
 ghost use Rattle.drawing.specs.Inner.{standAt, Turns, Passes, Traces};
 use crate::path::close;
+use crate::path::close_first;
 use crate::path::cubic_to;
 use crate::path::line_to;
 use crate::path::move_to;
@@ -76,12 +75,6 @@ fn continues(mode: Mode, b: u8) -> bool
     }
 }
 
-fn both(a: bool, b: bool) -> bool
-    ensures { λ r. ⌜ r ≡ pick a b false ⌝ }
-{
-    if a { b } else { false }
-}
-
 // A move to the point behind k; nothing where there is none.
 fn moves_to(
     text: &[u8],
@@ -99,23 +92,14 @@ fn moves_to(
     let OnePoint::At(p, next) = read else {
         return Stand { pen, n, next: k };
     };
-    let after = Pen {
-        cur: p,
-        opened: false,
-        mode: Mode::Lines,
-    };
-    if both(closes, pen.opened) {
-        let shut = close(n, path);
-        let m = move_to(p, shut, path);
-        return Stand {
-            pen: after,
-            n: m,
-            next,
-        };
-    }
-    let m = move_to(p, n, path);
+    let shut = close_first(closes, pen.opened, n, path);
+    let m = move_to(p, shut, path);
     Stand {
-        pen: after,
+        pen: Pen {
+            cur: p,
+            opened: false,
+            mode: Mode::Lines,
+        },
         n: m,
         next,
     }

@@ -1,5 +1,6 @@
-use Rattle.drawing.proofs.Turning.{moves-none, moves-shut, moves-plain}
-use mathlib.Core.Path.{sym, _∙_}
+use Rattle.drawing.proofs.Counting.{closing-one}
+use Rattle.drawing.proofs.Turning.{moves-none, moves-some}
+use native.Mathlib.Omega.{arith}
 use borrow.Author.Needs.{needs}
 use Rattle.drawing.proofs.machine.moves_to.Statement.{statement}
 use Rattle.drawing.proofs.machine.moves_to.Tie as tie
@@ -16,29 +17,17 @@ enum-told c = search needs
 returns : tie.Need-returns
 returns c = moves-none _ _ (c .before .before .read-point .ensures) (c .enum-told .given .1) (search needs)
 
-both-requires : tie.Need-both-requires
-both-requires c κs = search needs
-
-close-requires : tie.Need-close-requires
-close-requires c κs = search needs
+close-first-requires : tie.Need-close-first-requires
+close-first-requires c κs = search needs
 
 move-to-requires : tie.Need-move-to-requires
-move-to-requires c κs = search needs
+move-to-requires c κs = let a = c .before .before .before .before .before .before .before .before .before .before .before .args in omega (arith, c .before .before .before .close-first .ensures .count, closing-one (a .closes) (a .pen .opened))
 
 same-length : tie.Need-same-length
 same-length c = search needs
 
 returns-2 : tie.Need-returns-2
-returns-2 c = moves-shut _ _ (c .before .before .before .before .before .before .before .before .before .before .before .before .before .read-point .ensures) (c .before .before .before .before .before .before .before .before .before .before .before .read .given .1) (sym (c .before .before .before .before .before .before .before .before .before .both .ensures) ∙ c .before .before .before .before .before .before .before .before .if1 .taken) (c .before .before .before .before .before .before .close .ensures) (c .before .before .move-to .ensures)
-
-move-to-requires-2 : tie.Need-move-to-requires-2
-move-to-requires-2 c κs = search needs
-
-same-length-2 : tie.Need-same-length-2
-same-length-2 c = search needs
-
-returns-3 : tie.Need-returns-3
-returns-3 c = moves-plain _ _ (c .before .before .before .before .before .before .before .before .before .read-point .ensures) (c .before .before .before .before .before .before .before .read .given .1) (sym (c .before .before .before .before .before .both .ensures) ∙ c .before .before .before .before .if1 .left) (c .before .before .move-to2 .ensures)
+returns-2 c = moves-some _ _ (c .before .before .before .before .before .before .before .before .before .before .before .read-point .ensures) (c .before .before .before .before .before .before .before .before .before .read .given .1) (c .before .before .before .before .before .before .close-first .ensures) (c .before .before .move-to .ensures)
 
 pub moves-to-spec : {M : Type 1} → statement M
 moves-to-spec =
@@ -48,11 +37,7 @@ moves-to-spec =
     enum-known-read
     enum-told
     returns
-    both-requires
-    close-requires
+    close-first-requires
     move-to-requires
     same-length
-    returns-2
-    move-to-requires-2
-    same-length-2
-    returns-3)
+    returns-2)
