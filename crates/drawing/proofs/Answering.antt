@@ -11,7 +11,6 @@ use Rattle.scan.proofs.Laws.{le-or-lt}
 use Rattle.refusal.specs.Refusal.{textGround}
 use Rattle.refusal.specs.declared.Refusal.{Refusal}
 use Rattle.refusal.specs.declared.Refusal.the-variants.{ScaleTooLarge, NoRoom}
-use Rattle.refusal.specs.declared.Checked.{Checked}
 use Rattle.refusal.specs.declared.Checked.the-variants.{Good, Bad}
 use Rattle.tag.specs.Table.{laid}
 use Rattle.tag.proofs.Table.{laid-copied}

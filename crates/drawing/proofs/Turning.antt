@@ -3,7 +3,7 @@ use mathlib.Core.Path.{_≡_, refl, sym, subst}
 use mathlib.Core.List.{List, [], _∷_}
 use mathlib.Core.Bool.{Bool, true, false}
 use mathlib.Core.Logic.{⊎-elim}
-use Prim.Native.Nat.{ℕ, _+_, _≤_, _<_}
+use Prim.Native.Nat.{ℕ, _+_, _≤_}
 use native.Mathlib.Omega.{arith}
 use lib.Ieee.{Float}
 use lib.ListN.{length}
@@ -27,7 +27,7 @@ use Rattle.drawing.specs.declared.pen.Pen.{Pen}
 use Rattle.drawing.specs.declared.pen.Stroke.{Stroke}
 use Rattle.drawing.specs.declared.machine.Stand.{Stand}
 use Rattle.drawing.specs.declared.machine.Command.{Command}
-use Rattle.drawing.specs.Drawing.{lineTo, moveTo, cubicTo, closesFirst, Turn, turned, penOf, byMode, onPoint, splinePoint, settled, pointed, curve, bareBy, bareTurn, continues, command, commandOf, letterTurn, turnOf, movesTo}
+use Rattle.drawing.specs.Drawing.{lineTo, moveTo, cubicTo, closesFirst, Turn, turned, penOf, onPoint, splinePoint, settled, pointed, curve, bareBy, bareTurn, continues, command, commandOf, letterTurn, turnOf, movesTo}
 use Rattle.drawing.specs.Inner.{Emits, PointFrom, ReadsPoint, ReadsThree, Stroked, Turns}
 use Rattle.drawing.proofs.Emitting.{emits-none, emits-join}
 use Rattle.drawing.proofs.Counting.{closing-one, left, left-turn}

@@ -1,6 +1,5 @@
 // The machine that takes a drawing's tokens one after the other: what each token does, and the loop over them.
 ghost use mathlib.Core.Path.{_≡_};
-ghost use mathlib.Core.List.{_∷_};
 ghost use Prim.Native.Nat.{_+_, _≤_, _<_};
 ghost use lib.ListN.{length};
 ghost use Rattle.tokens.specs.Tokens.{from as tokensFrom};

@@ -1,5 +1,4 @@
 // Points, read from the tokens of a drawing.
-ghost use mathlib.Core.List.{_∷_};
 ghost use Prim.Native.Nat.{_≤_};
 ghost use lib.ListN.{length};
 ghost use Rattle.tokens.specs.Inner.{NextIs};

@@ -1,6 +1,6 @@
 // The tokens of a drawing's text: what stands between its blanks.
 ghost use mathlib.Core.Path.{_≡_};
-ghost use Prim.Native.Nat.{_+_, _≤_, _<_};
+ghost use Prim.Native.Nat.{_≤_, _<_};
 ghost use lib.ListN.{length};
 ghost use Rattle.tokens.specs.Tokens.{lower as lowerOf, spells as spellsAt, special as specialAt, oneLetter, tokenOf, tokenEnd, isLetter, from as tokensFrom, tail, tokensGround};
 ghost use Rattle.tokens.specs.Inner.{Follows, Skips};

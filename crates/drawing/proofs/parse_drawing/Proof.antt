@@ -1,5 +1,4 @@
 use mathlib.Core.Path.{sym, _∙_}
-use native.Mathlib.Omega.{arith}
 use Rattle.drawing.proofs.Answering.{short-text, answered-text, answered-large, none-drawn, few-drawn, many-drawn}
 use borrow.Author.Needs.{needs}
 use Rattle.drawing.proofs.parse_drawing.Statement.{statement}
