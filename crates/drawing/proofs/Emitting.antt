@@ -8,7 +8,7 @@ use lib.Seq.{length-take-le}
 use Rattle.tag.specs.declared.Record.{Record}
 use Rattle.tag.specs.Table.{laid}
 use Rattle.tag.proofs.Table.{length-laid, laid-step, rest-is, rest-back}
-use Rattle.drawing.specs.Drawing.{Emits}
+use Rattle.drawing.specs.Inner.{Emits}
 
 pub emits-none : (t : List ℕ) (n : ℕ) → Emits t n [] n t
 unfolding laid

@@ -16,18 +16,18 @@ use Rattle.numeral.specs.Numeral.{F32, tooLong, number, f32At}
 use Rattle.numeral.proofs.Reach.{number-in-reach}
 use Rattle.tag.specs.declared.Record.{Record}
 use Rattle.tag.specs.Table.{bits}
-use Rattle.drawing.specs.declared.Token.{Token}
-use Rattle.drawing.specs.declared.Token.the-variants.{Letter, Number, Refused, Other}
-use Rattle.drawing.specs.declared.Point.{Point}
-use Rattle.drawing.specs.declared.Ctrl.{Ctrl}
-use Rattle.drawing.specs.declared.Ctrl.the-variants.{One, Two, Three, Span}
-use Rattle.drawing.specs.declared.Mode.{Mode}
-use Rattle.drawing.specs.declared.Mode.the-variants.{Idle, Lines, Cubics, Spline}
-use Rattle.drawing.specs.declared.Pen.{Pen}
-use Rattle.drawing.specs.declared.Command.{Command}
-use Rattle.drawing.specs.declared.Command.the-variants.{Move, MoveOpen, Line, Cubic, Basis, Close, Unknown}
-use Rattle.drawing.specs.Tokens.{isLetter, special, oneLetter, tokenOf, numeralToken, tokenEnd, tokens, from, untilLetter}
-use Rattle.drawing.specs.Drawing.{f0, f1, f2, f4, scaleOf, scaled, bez, spanOf, moveTo, lineTo, cubicTo, closed, Read1, none1, point, Read3, none3, points, second, readPoint, third, thirdOf, secondOf, readThree, Turn, turned, Gives, splinePoint, byMode, settled, settledBy, pointedBy, curveBy, bareBy, continues, movesBy, command, commandOf, letterTurn, turnOf, walk, start}
+use Rattle.tokens.specs.declared.Token.{Token}
+use Rattle.tokens.specs.declared.Token.the-variants.{Letter, Number, Refused, Other}
+use Rattle.drawing.specs.declared.points.Point.{Point}
+use Rattle.drawing.specs.declared.pen.Ctrl.{Ctrl}
+use Rattle.drawing.specs.declared.pen.Ctrl.the-variants.{One, Two, Three, Span}
+use Rattle.drawing.specs.declared.pen.Mode.{Mode}
+use Rattle.drawing.specs.declared.pen.Mode.the-variants.{Idle, Lines, Cubics, Spline}
+use Rattle.drawing.specs.declared.pen.Pen.{Pen}
+use Rattle.drawing.specs.declared.machine.Command.{Command}
+use Rattle.drawing.specs.declared.machine.Command.the-variants.{Move, MoveOpen, Line, Cubic, Basis, Close, Unknown}
+use Rattle.tokens.specs.Tokens.{isLetter, special, oneLetter, tokenOf, numeralToken, tokenEnd, tokens, from, untilLetter}
+use Rattle.drawing.specs.Drawing.{f0, f1, f2, f4, scaleOf, scaled, bez, spanOf, moveTo, lineTo, cubicTo, closed, Read1, none1, point, Read3, none3, points, behindNumber, readPoint, behindPoint, readThree, Turn, turned, Gives, splinePoint, byMode, settled, settledBy, pointedBy, curveBy, bareBy, continues, movesBy, command, commandOf, letterTurn, turnOf, walk, start}
 use Rattle.drawing.specs.Answer.{drawing}
 use Rattle.drawing.proofs.Within.{Within, most, e0, e1, e2, e4, e5, e6, mul-within, weighed-within, weighed-fits, reach-within}
 
@@ -235,34 +235,25 @@ module _ (k : Float) (small : Within 1 k) where
         y = record { within = mul-within most 1 e1 y k (b .within) small; fits = mul-fits binary32 y k };
       }
 
-  near-second : {x : Float} {ts : List Token} → Near x → NearTokens ts → Near1 (second k x ts)
-  near-second a last = tt
-  near-second a (then {t = Letter b} y l) = tt
-  near-second a (then {t = Number x} y l) = (near-scaled a y, l)
-  near-second a (then {t = Refused p} y l) = tt
-  near-second a (then {t = Other} y l) = tt
+  near-number : {ts : List Token} (f : Float → List Token → Read1) → NearTokens ts → ((x : Float) (us : List Token) → Near x → NearTokens us → Near1 (f x us)) → Near1 (behindNumber ts f)
+  near-number f last g = tt
+  near-number f (then {t = Letter b} y l) g = tt
+  near-number f (then {t = Number x} {l = us} y l) g = g x us y l
+  near-number f (then {t = Refused p} y l) g = tt
+  near-number f (then {t = Other} y l) g = tt
 
   near-read : {ts : List Token} → NearTokens ts → Near1 (readPoint k ts)
-  near-read last = tt
-  near-read (then {t = Letter b} y l) = tt
-  near-read (then {t = Number x} y l) = near-second y l
-  near-read (then {t = Refused p} y l) = tt
-  near-read (then {t = Other} y l) = tt
+  near-read n = near-number _ n (λ x us a l. near-number _ l (λ y vs b m. (near-scaled a b, m)))
+
+  near-behind : (r : Read1) (f : Point → List Token → Read3) → Near1 r → ((p : Point) (us : List Token) → NearPoint p → NearTokens us → Near3 (f p us)) → Near3 (behindPoint r f)
+  near-behind none1 f h g = tt
+  near-behind (point p us) f h g = g p us (h .0) (h .1)
 
   near-three : {ts : List Token} → NearTokens ts → Near3 (readThree k ts)
-  near-three {ts} n = first (readPoint k ts) (near-read n)
-    where
-      final : {p q : Point} → NearPoint p → NearPoint q → (r : Read1) → Near1 r → Near3 (third p q r)
-      final a b none1 h = tt
-      final a b (point r us) h = (a, b, h .0, h .1)
-
-      next : {p : Point} → NearPoint p → (r : Read1) → Near1 r → Near3 (thirdOf k p r)
-      next a none1 h = tt
-      next a (point q us) h = final a (h .0) (readPoint k us) (near-read (h .1))
-
-      first : (r : Read1) → Near1 r → Near3 (secondOf k r)
-      first none1 h = tt
-      first (point p us) h = next (h .0) (readPoint k us) (near-read (h .1))
+  near-three {ts} n =
+      near-behind (readPoint k ts) _ (near-read n) (λ p us a l.
+      near-behind (readPoint k us) _ (near-read l) (λ q vs b m.
+      near-behind (readPoint k vs) _ (near-read m) (λ r ws c o. (a, b, c, o))))
 
   near-span : {b c p : Point} → NearPoint b → NearPoint c → NearPoint p → FiniteCommand (spanOf b c p)
   near-span b c p = near-cubic (near-420 b c c) (near-240 b c c) (near-141 b c p)

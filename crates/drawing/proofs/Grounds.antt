@@ -13,19 +13,20 @@ use Rattle.refusal.specs.declared.Refusal.{Refusal}
 use Rattle.refusal.specs.declared.Refusal.the-variants.{NumeralTooLong}
 use Rattle.refusal.specs.declared.Checked.{Checked}
 use Rattle.refusal.specs.declared.Checked.the-variants.{Good, Bad}
-use Rattle.drawing.specs.declared.Token.{Token}
-use Rattle.drawing.specs.declared.Token.the-variants.{Letter, Number, Refused, Other}
-use Rattle.drawing.specs.declared.Command.{Command}
-use Rattle.drawing.specs.declared.Command.the-variants.{Move, MoveOpen, Line, Cubic, Basis, Close, Unknown}
-use Rattle.drawing.proofs.Command.{the-type}
-use Rattle.drawing.specs.declared.Point.{Point}
-use Rattle.drawing.specs.declared.Mode.{Mode}
-use Rattle.drawing.specs.declared.Mode.the-variants.{Idle, Lines, Cubics, Spline}
-use Rattle.drawing.specs.declared.Pen.{Pen}
-use Rattle.drawing.specs.Tokens.{from, untilLetter}
-use Rattle.drawing.specs.Drawing.{Read1, none1, point, Read3, none3, points, readPoint, third, thirdOf, secondOf, Turn, turned, settled, continues, pointedBy, curveBy, bareBy, movesBy, command, commandOf, letterTurn, turnOf}
-use Rattle.drawing.specs.Answer.{tokensGround, unless}
-use Rattle.drawing.proofs.Turning.{NextIs}
+use Rattle.tokens.specs.declared.Token.{Token}
+use Rattle.tokens.specs.declared.Token.the-variants.{Letter, Number, Refused, Other}
+use Rattle.drawing.specs.declared.machine.Command.{Command}
+use Rattle.drawing.specs.declared.machine.Command.the-variants.{Move, MoveOpen, Line, Cubic, Basis, Close, Unknown}
+use Rattle.drawing.proofs.machine.Command.{the-type}
+use Rattle.drawing.specs.declared.points.Point.{Point}
+use Rattle.drawing.specs.declared.pen.Mode.{Mode}
+use Rattle.drawing.specs.declared.pen.Mode.the-variants.{Idle, Lines, Cubics, Spline}
+use Rattle.drawing.specs.declared.pen.Pen.{Pen}
+use Rattle.tokens.specs.Tokens.{from, untilLetter, tail, tokensGround}
+use Rattle.tokens.specs.Inner.{NextIs}
+use Rattle.drawing.specs.Drawing.{Read1, none1, point, Read3, none3, points, readPoint, behindPoint, readThree, Turn, turned, settled, continues, pointedBy, curveBy, bareBy, movesBy, command, commandOf, letterTurn, turnOf}
+use Rattle.drawing.specs.Answer.{unless}
+use Rattle.drawing.specs.Inner.{Passes}
 
 -- the tokens behind a point, or all of them
 abbrev restOf : Read1 → List Token → List Token
@@ -50,17 +51,15 @@ read-ground k (Other ∷ ts) = refl
 
 -- from the tokens behind the first, ts, to what a turn leaves; g is the ground of all
 module _ (k : Float) (pen : Pen) (ts : List Token) (g : Checked) (h : tokensGround ts ≡ g) where
-  third-ground : (p q : Point) (r : Read1) (u : List Token) → tokensGround (restOf r u) ≡ g → tokensGround (restOf3 (third p q r) ts) ≡ g
-  third-ground p q none1 u e = h
-  third-ground p q (point r rest) u e = e
+  behind-ground : (r : Read1) (u : List Token) (f : Point → List Token → Read3) → tokensGround (restOf r u) ≡ g → ((p : Point) (us : List Token) → tokensGround us ≡ g → tokensGround (restOf3 (f p us) ts) ≡ g) → tokensGround (restOf3 (behindPoint r f) ts) ≡ g
+  behind-ground none1 u f e z = h
+  behind-ground (point p us) u f e z = z p us e
 
-  second-ground : (p : Point) (r : Read1) (u : List Token) → tokensGround (restOf r u) ≡ g → tokensGround (restOf3 (thirdOf k p r) ts) ≡ g
-  second-ground p none1 u e = h
-  second-ground p (point q rest) u e = third-ground p q (readPoint k rest) rest (read-ground k rest ∙ e)
-
-  first-ground : (r : Read1) (u : List Token) → tokensGround (restOf r u) ≡ g → tokensGround (restOf3 (secondOf k r) ts) ≡ g
-  first-ground none1 u e = h
-  first-ground (point p rest) u e = second-ground p (readPoint k rest) rest (read-ground k rest ∙ e)
+  three-ground : (all : List Token) → tokensGround all ≡ g → tokensGround (restOf3 (readThree k all) ts) ≡ g
+  three-ground all e =
+      behind-ground (readPoint k all) all _ (read-ground k all ∙ e) (λ p us a.
+      behind-ground (readPoint k us) us _ (read-ground k us ∙ a) (λ q vs b.
+      behind-ground (readPoint k vs) vs _ (read-ground k vs ∙ b) (λ r ws c. c)))
 
   curve-rest : (r : Read3) → curveBy pen r ts .rest ≡ restOf3 r ts
   curve-rest none3 = refl
@@ -73,7 +72,7 @@ module _ (k : Float) (pen : Pen) (ts : List Token) (g : Checked) (h : tokensGrou
   bare-ground : (m : Mode) (all : List Token) → tokensGround all ≡ g → tokensGround (bareBy m k pen all ts .rest) ≡ g
   bare-ground Idle all e = h
   bare-ground Lines all e = pointed-ground (readPoint k all) all (read-ground k all ∙ e)
-  bare-ground Cubics all e = ap tokensGround (curve-rest (secondOf k (readPoint k all))) ∙ first-ground (readPoint k all) all (read-ground k all ∙ e)
+  bare-ground Cubics all e = ap tokensGround (curve-rest (readThree k all)) ∙ three-ground all e
   bare-ground (Spline c) all e = pointed-ground (readPoint k all) all (read-ground k all ∙ e)
 
 moves-ground : (closes : Bool) (pen : Pen) (r : Read1) (ts : List Token) → tokensGround (restOf r ts) ≡ tokensGround ts → tokensGround ts ≡ tokensGround (movesBy closes pen r ts .rest)
@@ -89,18 +88,31 @@ command-ground Basis k pen ts h = refl
 command-ground Close k pen ts h = refl
 command-ground Unknown k pen ts h = absurd (⊎-elim (λ z. omega arith) (λ h. ⊎-elim (λ z. omega arith) (λ h. ⊎-elim (λ z. omega arith) (λ h. ⊎-elim (λ z. omega arith) (λ h. ⊎-elim (λ z. omega arith) (λ z. omega arith) h) h) h) h) h)
 
+-- the tail of an unknown command, then the rest
+tail-splits : (ts : List Token) → tokensGround ts ≡ unless (tokensGround (tail ts)) (tokensGround (untilLetter ts))
+unfolding tokensGround tail untilLetter
+tail-splits [] = refl
+tail-splits (Letter b ∷ ts) = refl
+tail-splits (Number x ∷ ts) = tail-splits ts
+tail-splits (Refused p ∷ ts) = refl
+tail-splits (Other ∷ ts) = tail-splits ts
+
 module _ (k : Float) (pen : Pen) (ts : List Token) where
   pub letter-known : (b : ℕ) (c : Command) → c ≡ commandOf b → OneOf (0 ∷ 1 ∷ 2 ∷ 3 ∷ 4 ∷ 5 ∷ []) (tagOf the-type c) → tokensGround (Letter b ∷ ts) ≡ tokensGround (letterTurn b k pen ts .rest)
   unfolding tokensGround letterTurn
   letter-known b c e h = picked (λ (u : Turn). tokensGround ts ≡ tokensGround (u .rest)) (continues (pen .mode) b) (turned pen [] ts) (command (commandOf b) k (settled pen) ts) refl (rw (← e) (command-ground c k (settled pen) ts h))
 
-  either-way : (u : List Token) (r : Checked) → tokensGround ts ≡ unless r (tokensGround u) → tokensGround ts ≡ unless r (tokensGround ts)
-  either-way u Good e = refl
-  either-way u (Bad x) e = e
-
-  pub letter-unknown : (b : ℕ) (r : Checked) → commandOf b ≡ Unknown → tokensGround ts ≡ unless r (tokensGround (untilLetter ts)) → tokensGround (Letter b ∷ ts) ≡ unless r (tokensGround (letterTurn b k pen ts .rest))
+  pub letter-unknown : (b : ℕ) → commandOf b ≡ Unknown → tokensGround (Letter b ∷ ts) ≡ unless (tokensGround (tail ts)) (tokensGround (letterTurn b k pen ts .rest))
   unfolding tokensGround letterTurn
-  letter-unknown b r q e = picked (λ (u : Turn). tokensGround ts ≡ unless r (tokensGround (u .rest))) (continues (pen .mode) b) (turned pen [] ts) (command (commandOf b) k (settled pen) ts) (either-way (untilLetter ts) r e) (rw q e)
+  letter-unknown b q =
+      let r = tokensGround (tail ts) in
+      picked (λ (u : Turn). tokensGround ts ≡ unless r (tokensGround (u .rest))) (continues (pen .mode) b) (turned pen [] ts) (command (commandOf b) k (settled pen) ts)
+      (either-way r (tail-splits ts))
+      (rw q (tail-splits ts))
+    where
+      either-way : (r : Checked) → tokensGround ts ≡ unless r (tokensGround (untilLetter ts)) → tokensGround ts ≡ unless r (tokensGround ts)
+      either-way Good e = refl
+      either-way (Bad x) e = e
 
   pub number-ground : (x : Float) → tokensGround (Number x ∷ ts) ≡ tokensGround (turnOf (Number x) k pen (Number x ∷ ts) ts .rest)
   unfolding tokensGround
@@ -116,7 +128,7 @@ module _ (k : Float) (pen : Pen) (ts : List Token) where
 
 -- a turn that passes over no refused numeral, and one that stops at one
 module _ {s : List ℕ} {i j : ℕ} {t : Token} (k : Float) (pen : Pen) (r : Checked) (n : NextIs s i t j)
-    (f : (k : Float) (pen : Pen) → tokensGround (t ∷ from s j) ≡ unless r (tokensGround (turnOf t k pen (t ∷ from s j) (from s j) .rest))) where
+    (f : Passes t (from s j) r) where
   pub ground-turned : (next : ℕ) → r ≡ Good → from s next ≡ turnOf t k pen (from s i) (from s j) .rest → tokensGround (from s i) ≡ tokensGround (from s next)
   ground-turned next e q =
       let rest = turnOf t k pen (t ∷ from s j) (from s j) .rest in

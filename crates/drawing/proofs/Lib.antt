@@ -1,8 +1,8 @@
-pub mod Words
+pub mod Reading
 pub mod Emitting
-pub mod Machine
+pub mod Counting
 pub mod Turning
+pub mod Grounds
 pub mod Answering
 pub mod Within
 pub mod Finite
-pub mod Grounds

@@ -1,30 +1,20 @@
 -- What `parse_drawing` answers, and what the path table holds afterwards.
 use mathlib.Core.Path.{_≡_}
-use mathlib.Core.List.{List, [], _∷_}
-use Prim.Native.Nat.{ℕ, _/_, _≤_, _<_, min}
+use mathlib.Core.List.{List}
+use Prim.Native.Nat.{ℕ, _/_, min}
 use lib.Dec.{ltb}
 use lib.ListN.{length}
 use Rattle.scan.specs.Scan.{pick}
 use Rattle.refusal.specs.Refusal.{numberOf, placeOf, mostPlaces, textGround}
-use Rattle.refusal.specs.declared.Refusal.the-variants.{NumeralTooLong, ScaleTooLarge, NoRoom}
+use Rattle.refusal.specs.declared.Refusal.the-variants.{ScaleTooLarge, NoRoom}
 use Rattle.tag.specs.declared.Record.{Record}
 use Rattle.tag.specs.Table.{laid, width}
-use Rattle.drawing.specs.declared.Token.{Token}
-use Rattle.drawing.specs.declared.Token.the-variants.{Letter, Number, Refused as RefusedToken, Other}
 use Rattle.refusal.specs.declared.Checked.{Checked}
 use Rattle.refusal.specs.declared.Checked.the-variants.{Good, Bad}
 use Rattle.drawing.specs.declared.Drawing.{Drawing}
 use Rattle.drawing.specs.declared.Drawing.the-variants.{Drawn, Refused}
-use Rattle.drawing.specs.Tokens.{from}
+use Rattle.tokens.specs.Tokens.{from, tokensGround}
 use Rattle.drawing.specs.Drawing.{scaleOf, draw}
-
--- ground 3: "any token that is a numeral refused above", the earliest
-unfoldable pub tokensGround : List Token → Checked
-tokensGround [] = Good
-tokensGround (Letter b ∷ ts) = tokensGround ts
-tokensGround (Number x ∷ ts) = tokensGround ts
-tokensGround (RefusedToken p ∷ ts) = Bad (NumeralTooLong p)
-tokensGround (Other ∷ ts) = tokensGround ts
 
 -- 01, ground 7: "a drawing's scale exponent is above 32"
 abbrev pub mostExponent : ℕ
@@ -86,9 +76,3 @@ commandsDrawn (Refused r) = 0
 pub record Answered (s : List ℕ) (exponent : ℕ) (t : List ℕ) (r : Drawing) (u : List ℕ) : Type 0 where
   pub drawing : r ≡ answer s exponent (placesOf t)
   pub path : u ≡ after s exponent t
-
--- what the first run says, by a scratch path of 32 commands: the answer; that no numeral is refused where it draws; and up to 32 commands are in the path, more are not
-pub record Begun (s : List ℕ) (exponent : ℕ) (t : List ℕ) (r : Drawing) (u : List ℕ) : Type 0 where
-  pub drawing : r ≡ answer s exponent (placesOf t)
-  pub few : commandsDrawn r ≤ 32 → u ≡ after s exponent t
-  pub many : 32 < commandsDrawn r → (u ≡ t) × (tokensGround (from s 0) ≡ Good)

@@ -1,33 +1,26 @@
 -- A drawing's path: Rust's `parse_drawing`, `emit_bspline`, `read_point` and `read_three_points` over the list of tokens.
 -- 01, src/drawing.rs. What the documents say stands beside each command: (S) the format's description, (L) another reader.
-use mathlib.Core.Path.{_≡_}
 use mathlib.Core.List.{List, [], _∷_, _++_}
 use mathlib.Core.Bool.{Bool, true, false}
-use Prim.Native.Nat.{ℕ, zero, suc, _+_, _-_, _*_, _^_, _≤_, _<_, min}
+use Prim.Native.Nat.{ℕ, zero, suc, _-_, _^_}
 use lib.Dec.{eqb}
 use lib.IntN.{pos}
 use lib.Ieee.{Float, fin, binary32, add, mul, div, ofInt}
-use lib.ListN.{length, take, drop}
+use lib.ListN.{length}
 use Rattle.scan.specs.Scan.{pick}
 use Rattle.tag.specs.declared.Record.{Record}
-use Rattle.tag.specs.Table.{rec, bits, laid, width}
-use Rattle.drawing.specs.declared.Token.{Token}
-use Rattle.drawing.specs.declared.Token.the-variants.{Letter, Number, Refused, Other}
-use Rattle.drawing.specs.declared.Point.{Point}
-use Rattle.drawing.specs.declared.Ctrl.{Ctrl}
-use Rattle.drawing.specs.declared.Ctrl.the-variants.{One, Two, Three, Span}
-use Rattle.drawing.specs.declared.Mode.{Mode}
-use Rattle.drawing.specs.declared.Mode.the-variants.{Idle, Lines, Cubics, Spline}
-use Rattle.drawing.specs.declared.Pen.{Pen}
-use Rattle.drawing.specs.declared.Stroke.{Stroke}
-use Rattle.drawing.specs.declared.Stand.{Stand}
-use Rattle.drawing.specs.declared.Command.{Command}
-use Rattle.drawing.specs.declared.Command.the-variants.{Move, MoveOpen, Line, Cubic, Basis, Close, Unknown}
-use Rattle.drawing.specs.declared.OnePoint.{OnePoint}
-use Rattle.drawing.specs.declared.OnePoint.the-variants.{No as NoPoint, At as PointAt}
-use Rattle.drawing.specs.declared.ThreePoints.{ThreePoints}
-use Rattle.drawing.specs.declared.ThreePoints.the-variants.{No as NoThree, At as ThreeAt}
-use Rattle.drawing.specs.Tokens.{lower, from, untilLetter}
+use Rattle.tag.specs.Table.{rec, bits}
+use Rattle.tokens.specs.declared.Token.{Token}
+use Rattle.tokens.specs.declared.Token.the-variants.{Letter, Number, Refused, Other}
+use Rattle.tokens.specs.Tokens.{lower, untilLetter}
+use Rattle.drawing.specs.declared.points.Point.{Point}
+use Rattle.drawing.specs.declared.pen.Ctrl.{Ctrl}
+use Rattle.drawing.specs.declared.pen.Ctrl.the-variants.{One, Two, Three, Span}
+use Rattle.drawing.specs.declared.pen.Mode.{Mode}
+use Rattle.drawing.specs.declared.pen.Mode.the-variants.{Idle, Lines, Cubics, Spline}
+use Rattle.drawing.specs.declared.pen.Pen.{Pen}
+use Rattle.drawing.specs.declared.machine.Command.{Command}
+use Rattle.drawing.specs.declared.machine.Command.the-variants.{Move, MoveOpen, Line, Cubic, Basis, Close, Unknown}
 
 -- ---- numbers
 
@@ -102,36 +95,26 @@ pub data Read3 : Type 0 where
   none3 : Read3
   points : Point → Point → Point → List Token → Read3
 
-abbrev pub second : Float → Float → List Token → Read1
-second k x [] = none1
-second k x (Letter b ∷ ts) = none1
-second k x (Number y ∷ ts) = point (scaled k x y) ts
-second k x (Refused p ∷ ts) = none1
-second k x (Other ∷ ts) = none1
+-- what f reads behind a first number; none where there is no number
+abbrev pub behindNumber : List Token → (Float → List Token → Read1) → Read1
+behindNumber [] f = none1
+behindNumber (Letter b ∷ ts) f = none1
+behindNumber (Number x ∷ ts) f = f x ts
+behindNumber (Refused p ∷ ts) f = none1
+behindNumber (Other ∷ ts) f = none1
 
 -- Rust's `read_point`, coordinates multiplied by k
 abbrev pub readPoint : Float → List Token → Read1
-readPoint k [] = none1
-readPoint k (Letter b ∷ ts) = none1
-readPoint k (Number x ∷ ts) = second k x ts
-readPoint k (Refused p ∷ ts) = none1
-readPoint k (Other ∷ ts) = none1
+readPoint k ts = behindNumber ts (λ x us. behindNumber us (λ y vs. point (scaled k x y) vs))
 
-abbrev pub third : Point → Point → Read1 → Read3
-third p q none1 = none3
-third p q (point r ts) = points p q r ts
-
-abbrev pub thirdOf : Float → Point → Read1 → Read3
-thirdOf k p none1 = none3
-thirdOf k p (point q ts) = third p q (readPoint k ts)
-
-abbrev pub secondOf : Float → Read1 → Read3
-secondOf k none1 = none3
-secondOf k (point p ts) = thirdOf k p (readPoint k ts)
+-- what f reads behind a point; none where there is no point
+abbrev pub behindPoint : Read1 → (Point → List Token → Read3) → Read3
+behindPoint none1 f = none3
+behindPoint (point p ts) f = f p ts
 
 -- Rust's `read_three_points`
 abbrev pub readThree : Float → List Token → Read3
-readThree k ts = secondOf k (readPoint k ts)
+readThree k ts = behindPoint (readPoint k ts) (λ p us. behindPoint (readPoint k us) (λ q vs. behindPoint (readPoint k vs) (λ r ws. points p q r ws)))
 
 -- ---- the machine
 
@@ -231,12 +214,12 @@ continues Cubics b = false
 continues (Spline c) b = eqb b 112
 
 -- 01: "`m` closes an open subpath, `n` does not"
-abbrev pub closing : Bool → Bool → List Record
-closing closes opened = pick (pick closes opened false) (closed ∷ []) []
+abbrev pub closesFirst : Bool → Bool → List Record
+closesFirst closes opened = pick (pick closes opened false) (closed ∷ []) []
 
 abbrev pub movesBy : Bool → Pen → Read1 → List Token → Turn
 movesBy closes pen none1 ts = turned pen [] ts
-movesBy closes pen (point p rest) ts = turned (penOf p false Lines) (closing closes (pen .opened) ++ (moveTo p ∷ [])) rest
+movesBy closes pen (point p rest) ts = turned (penOf p false Lines) (closesFirst closes (pen .opened) ++ (moveTo p ∷ [])) rest
 
 -- a move to the next point; without one nothing changes
 abbrev pub movesTo : Bool → Float → Pen → List Token → Turn
@@ -283,50 +266,3 @@ start = penOf (at f0 f0) false Idle
 -- the commands of a drawing
 abbrev pub draw : Float → List Token → List Record
 draw k ts = walk k (length ts) start ts
-
--- ---- what the code's parts say
-
--- t with commands written behind its first n places, as many as there is room for, is u; then there are m
-pub record Emits (t : List ℕ) (n : ℕ) (cs : List Record) (m : ℕ) (u : List ℕ) : Type 0 where
-  pub count : m ≡ n + length cs
-  pub path : u ≡ take (min (width * n) (length t)) t ++ laid (drop (min (width * n) (length t)) t) cs
-
-abbrev pub standAt : Point → Bool → Mode → ℕ → ℕ → Stand
-standAt cur opened mode n next = record { pen = penOf cur opened mode; n = n; next = next }
-
-abbrev pub read1 : List ℕ → OnePoint → Read1
-read1 s NoPoint = none1
-read1 s (PointAt p j) = point p (from s j)
-
-abbrev pub read3 : List ℕ → ThreePoints → Read3
-read3 s NoThree = none3
-read3 s (ThreeAt p q r j) = points p q r (from s j)
-
-abbrev pub Behind1 : ℕ → ℕ → OnePoint → Type 0
-Behind1 i e NoPoint = Unit
-Behind1 i e (PointAt p j) = (i < j) × (j ≤ e)
-
-abbrev pub Behind3 : ℕ → ℕ → ThreePoints → Type 0
-Behind3 i e NoThree = Unit
-Behind3 i e (ThreeAt p q r j) = (i < j) × (j ≤ e)
-
-pub record ReadsPoint (s : List ℕ) (k : Float) (i : ℕ) (r : OnePoint) : Type 0 where
-  pub is : readPoint k (from s i) ≡ read1 s r
-  pub place : Behind1 i (length s) r
-
-pub record ReadsThree (s : List ℕ) (k : Float) (i : ℕ) (r : ThreePoints) : Type 0 where
-  pub is : readThree k (from s i) ≡ read3 s r
-  pub place : Behind3 i (length s) r
-
-pub record Stroked (t : List ℕ) (n : ℕ) (g : Gives) (r : Stroke) (u : List ℕ) : Type 0 where
-  pub pen : r .pen ≡ g .pen
-  pub emits : Emits t n (g .path) (r .n) u
-  pub few : r .n ≤ n + 2
-
-pub record Turns (s t : List ℕ) (n : ℕ) (g : Turn) (least : ℕ) (r : Stand) (u : List ℕ) : Type 0 where
-  pub pen : r .pen ≡ g .pen
-  pub emits : Emits t n (g .path) (r .n) u
-  pub few : r .n ≤ n + 2
-  pub rest : from s (r .next) ≡ g .rest
-  pub low : least ≤ r .next
-  pub high : r .next ≤ length s

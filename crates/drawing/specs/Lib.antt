@@ -1,4 +1,4 @@
-pub mod Tokens
 pub mod Drawing
 pub mod Answer
+pub mod Inner
 pub mod Sheet

@@ -23,7 +23,7 @@ least-requires : tie.Need-least-requires
 least-requires c κs = search needs
 
 returns : tie.Need-returns
-returns c = begun-none _ _ _ (answered-full _ _ _ (c .before .before .before .before .before .before .before .before .before .before .pre .0) (c .before .before .before .before .before .before .before .before .before .before .pre .1) (c .before .before .before .before .before .draw .ensures .0) (c .before .before .enum-told .given .1) (c .before .before .before .before .before .before .before .scale-of .ensures) (c .before .before .before .before .before .draw .ensures .1) (c .before .least .ensures) (c .if1 .taken))
+returns c = begun-none _ _ _ (answered-full _ _ _ (c .before .before .before .before .before .before .before .before .before .before .pre .0) (c .before .before .before .before .before .before .before .before .before .before .pre .1) (c .before .before .before .before .before .draw .ensures) (c .before .before .enum-told .given .1) (c .before .before .before .before .before .before .before .scale-of .ensures) (c .before .least .ensures) (c .if1 .taken))
 
 slice-aggregate-copy : tie.Need-slice-aggregate-copy
 slice-aggregate-copy c = search needs
@@ -32,16 +32,16 @@ copy-requires : tie.Need-copy-requires
 copy-requires c κs = search needs
 
 returns-2 : tie.Need-returns-2
-returns-2 c = begun-none _ _ _ (answered-token _ _ _ (c .before .before .before .before .before .before .before .before .before .pre .0) (c .before .before .before .before .before .before .before .before .before .pre .1) (c .before .before .before .before .draw .ensures .0) (c .before .ground .given .1))
+returns-2 c = begun-none _ _ _ (answered-token _ _ _ (c .before .before .before .before .before .before .before .before .before .pre .0) (c .before .before .before .before .before .before .before .before .before .pre .1) (c .before .before .before .before .draw .ensures) (c .before .ground .given .1))
 
 same-length : tie.Need-same-length
 same-length c = search needs
 
 returns-3 : tie.Need-returns-3
-returns-3 c = rw (c .before .before .copy .ensures) (begun-few _ _ _ (c .before .before .before .before .before .before .before .before .before .before .before .before .before .before .before .before .pre .0) (c .before .before .before .before .before .before .before .before .before .before .before .before .before .before .before .before .pre .1) (c .before .before .before .before .before .before .before .before .before .before .before .draw .ensures .0) (c .before .before .before .before .before .before .before .before .enum-told .given .1) (c .before .before .before .before .before .before .before .before .before .before .before .before .before .scale-of .ensures) (c .before .before .before .before .before .before .before .before .before .before .before .draw .ensures .1) (c .before .before .before .before .before .before .before .least .ensures) (c .before .before .before .before .before .before .if1 .left) (c .before .before .before .before .before .if2 .taken) (omega arith))
+returns-3 c = rw (c .before .before .copy .ensures) (begun-few _ _ _ (c .before .before .before .before .before .before .before .before .before .before .before .before .before .before .before .before .pre .0) (c .before .before .before .before .before .before .before .before .before .before .before .before .before .before .before .before .pre .1) (c .before .before .before .before .before .before .before .before .before .before .before .draw .ensures) (c .before .before .before .before .before .before .before .before .enum-told .given .1) (c .before .before .before .before .before .before .before .before .before .before .before .before .before .scale-of .ensures) (c .before .before .before .before .before .before .before .least .ensures) (c .before .before .before .before .before .before .if1 .left) (c .before .before .before .before .before .if2 .taken) (omega arith))
 
 returns-4 : tie.Need-returns-4
-returns-4 c = begun-many _ _ _ (c .before .before .before .before .before .before .before .before .before .before .before .pre .0) (c .before .before .before .before .before .before .before .before .before .before .before .pre .1) (c .before .before .before .before .before .before .draw .ensures .0) (c .before .before .before .enum-told .given .1) (c .before .before .before .before .before .before .before .before .scale-of .ensures) (c .before .before .before .before .before .before .draw .ensures .1) (c .before .before .least .ensures) (c .before .if1 .left) (c .if2 .left)
+returns-4 c = begun-many _ _ _ (c .before .before .before .before .before .before .before .before .before .before .before .pre .0) (c .before .before .before .before .before .before .before .before .before .before .before .pre .1) (c .before .before .before .before .before .before .draw .ensures) (c .before .before .before .enum-told .given .1) (c .before .before .before .before .before .before .before .before .scale-of .ensures) (c .before .before .least .ensures) (c .before .if1 .left) (c .if2 .left)
 
 pub draw-few-spec : {M : Type 1} → statement M
 draw-few-spec =

@@ -1,5 +1,4 @@
 use mathlib.Core.Path.{sym, _∙_}
-use native.Mathlib.Omega.{arith}
 use Rattle.drawing.proofs.Answering.{short-text, answered-text, answered-large, none-drawn, few-drawn, many-drawn}
 use borrow.Author.Needs.{needs}
 use Rattle.drawing.proofs.parse_drawing.Statement.{statement}
@@ -48,7 +47,7 @@ same-length-2 : tie.Need-same-length-2
 same-length-2 c = search needs
 
 returns-4 : tie.Need-returns-4
-returns-4 c = many-drawn _ _ _ (c .before .before .before .before .before .before .before .before .before .before .before .draw-few .ensures) _ (c .before .before .before .before .before .before .before .answer2 .given .1) (c .before .before .before .before .before .if2 .taken) (c .before .before .draw .ensures .0) (c .before .before .before .before .scale-of .ensures) (c .before .before .draw .ensures .1)
+returns-4 c = many-drawn _ _ _ (c .before .before .before .before .before .before .before .before .before .before .before .draw-few .ensures) _ (c .before .before .before .before .before .before .before .answer2 .given .1) (c .before .before .before .before .before .if2 .taken) (c .before .before .before .before .scale-of .ensures) (c .before .before .draw .ensures)
 
 same-length-3 : tie.Need-same-length-3
 same-length-3 c = search needs

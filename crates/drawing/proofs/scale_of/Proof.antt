@@ -1,10 +1,23 @@
-use Rattle.drawing.proofs.Turning.{scale-some}
-use lib.Ieee.{ofBits}
-use Rattle.drawing.specs.Drawing.{scaleOf}
-use borrow.Author.Tests.{eq-eqb}
+use mathlib.Core.Path.{_≡_}
+use Prim.Native.Nat.{ℕ, _-_, _*_, _%_, _^_, _≤_, _<_}
+use native.Mathlib.Omega.{arith}
+use native.Mathlib.Nat.{one-mul, mod-eq-of-lt}
+use lib.Pow.{pow-lt}
+use lib.IntN.{pos}
+use lib.Ieee.{Float, binary32, div, ofInt, ofBits}
+use Rattle.drawing.specs.Drawing.{f1, scaleOf}
+use borrow.Author.Tests.{eq-eqb, ne-eqb}
 use borrow.Author.Needs.{needs}
 use Rattle.drawing.proofs.scale_of.Statement.{statement}
 use Rattle.drawing.proofs.scale_of.Tie as tie
+
+-- the shift loses no bit
+scale-some : (e : ℕ) (y : Float) → ¬ (e ≡ 0) → e ≤ 32 → y ≡ ofInt binary32 (pos (1 * 2 ^ (e - 1) % 4294967296)) → div binary32 f1 y ≡ scaleOf e
+unfolding scaleOf
+scale-some e y h l q =
+    let b : 2 ^ (e - 1) < 4294967296 = pow-lt {i = e - 1} {j = 32} (omega arith) in
+    let z : 1 * 2 ^ (e - 1) % 4294967296 ≡ 2 ^ (e - 1) = rw one-mul (mod-eq-of-lt b) in
+    rw (ne-eqb e 0 h, q, z)
 
 returns : tie.Need-returns
 unfolding scaleOf ofBits

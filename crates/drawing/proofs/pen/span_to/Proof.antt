@@ -1,0 +1,41 @@
+use mathlib.Core.Path.{_≡_, subst}
+use mathlib.Core.List.{List, [], _∷_}
+use Prim.Native.Nat.{ℕ}
+use Rattle.tag.specs.declared.Record.{Record}
+use Rattle.drawing.specs.declared.points.Point.{Point}
+use Rattle.drawing.specs.Drawing.{f0, f2, f4, bez, spanEnd, spanOf, cubicTo}
+use Rattle.drawing.specs.Inner.{Emits}
+use lib.Ieee.{ofBits}
+use borrow.Author.Needs.{needs}
+use Rattle.drawing.proofs.pen.span_to.Statement.{statement}
+use Rattle.drawing.proofs.pen.span_to.Tie as tie
+
+-- a span from its three points
+span-emits : {t u : List ℕ} {n m : ℕ} (b c d p q r : Point) → p ≡ bez b f4 c f2 c f0 → q ≡ bez b f2 c f4 c f0 → r ≡ spanEnd b c d → Emits t n (cubicTo p q r ∷ []) m u → Emits t n (spanOf b c d ∷ []) m u
+span-emits {t} {u} {n} {m} b c d p q r x y z w =
+    let e : cubicTo p q r ≡ spanOf b c d = rw (x, y, z) in
+    subst (λ (o : Record). Emits t n (o ∷ []) m u) e w
+
+bez-requires : tie.Need-bez-requires
+bez-requires c κs = search needs
+
+bez-requires-2 : tie.Need-bez-requires-2
+bez-requires-2 c κs = search needs
+
+bez-requires-3 : tie.Need-bez-requires-3
+bez-requires-3 c κs = search needs
+
+cubic-to-requires : tie.Need-cubic-to-requires
+cubic-to-requires c κs = search needs
+
+same-length : tie.Need-same-length
+same-length c = search needs
+
+returns : tie.Need-returns
+unfolding ofBits
+returns c = span-emits _ _ _ _ _ _ (c .before .before .before .before .before .before .bez .ensures) (c .before .before .before .before .before .bez2 .ensures) (c .before .before .before .before .bez3 .ensures) (c .before .before .cubic-to .ensures)
+
+pub span-to-spec : {M : Type 1} → statement M
+span-to-spec =
+    tie.close
+    (tie.spec bez-requires bez-requires-2 bez-requires-3 cubic-to-requires same-length returns)

@@ -1,0 +1,28 @@
+use Rattle.tokens.proofs.Following.{next-is}
+use Rattle.drawing.proofs.Reading.{point-end, point-from}
+use borrow.Author.Needs.{needs}
+use Rattle.drawing.proofs.points.read_point.Statement.{statement}
+use Rattle.drawing.proofs.points.read_point.Tie as tie
+
+next-token-requires : tie.Need-next-token-requires
+next-token-requires c κs = search needs
+
+enum-known-first : tie.Need-enum-known-first
+enum-known-first c = search needs
+
+enum-told : tie.Need-enum-told
+enum-told c = search needs
+
+returns : tie.Need-returns
+returns c = point-end _ (c .before .before .next-token .ensures) (c .enum-told .given .1)
+
+point-from-requires : tie.Need-point-from-requires
+point-from-requires c κs = next-is (c .before .before .before .next-token .ensures) (c .before .first .given .1) .high
+
+returns-2 : tie.Need-returns-2
+returns-2 c = point-from _ (next-is (c .before .before .before .before .next-token .ensures) (c .before .before .first .given .1)) (c .point-from .ensures)
+
+pub read-point-spec : {M : Type 1} → statement M
+read-point-spec =
+    tie.close
+    (tie.spec next-token-requires enum-known-first enum-told returns point-from-requires returns-2)

@@ -1,0 +1,69 @@
+use Rattle.tokens.proofs.Following.{next-is, tail-end, tail-stop, tail-refused, tail-go}
+use Rattle.tokens.specs.Tokens.{from, tail, tokensGround}
+use native.Mathlib.Omega.{arith}
+use lib.ListN.{length}
+use Prim.Native.Nat.{_≤_, _-_}
+use mathlib.Core.Path.{_≡_, sym, _∙_}
+use borrow.Author.Needs.{needs}
+use Rattle.tokens.proofs.tail_ground.Statement.{statement}
+use Rattle.tokens.proofs.tail_ground.Tie as tie
+
+abbrev Inv-loop : tie.InvT-loop
+Inv-loop text i at₀ at = (at ≤ length text) × (tokensGround (tail (from text i)) ≡ tokensGround (tail (from text at)))
+
+abbrev μ-loop : tie.MeasureT-loop
+μ-loop text i at₀ at = length text - at
+
+loop-holds : tie.Need-loop-holds Inv-loop μ-loop
+loop-holds c = search needs
+
+next-token-requires : tie.Need-next-token-requires Inv-loop μ-loop
+next-token-requires c κs = search needs
+
+enum-told : tie.Need-enum-told Inv-loop μ-loop
+enum-told c = search needs
+
+returns : tie.Need-returns Inv-loop μ-loop
+returns c = sym (c .before .before .before .loop .inv .1 ∙ tail-end (c .before .before .next-token .ensures) (c .enum-told .given .1))
+
+enum-known-next : tie.Need-enum-known-next Inv-loop μ-loop
+enum-known-next c = search needs
+
+is-letter-requires : tie.Need-is-letter-requires Inv-loop μ-loop
+is-letter-requires c κs = search needs
+
+returns-2 : tie.Need-returns-2 Inv-loop μ-loop
+returns-2 c = sym (c .before .before .before .before .before .before .loop .inv .1 ∙ tail-stop (next-is (c .before .before .before .before .before .next-token .ensures) (c .before .before .before .next .given .1)) (sym (c .before .is-letter .ensures) ∙ c .if1 .taken))
+
+enum-known-t : tie.Need-enum-known-t Inv-loop μ-loop
+enum-known-t c = search needs
+
+returns-3 : tie.Need-returns-3 Inv-loop μ-loop
+returns-3 c = sym (c .before .before .before .before .before .before .before .before .before .loop .inv .1 ∙ tail-refused _ (next-is (c .before .before .before .before .before .before .before .before .next-token .ensures) (c .before .before .before .before .before .before .next .given .1)) (c .before .t .given .1))
+
+loop-less : tie.Need-loop-less Inv-loop μ-loop
+loop-less c = let n = next-is (c .before .before .before .before .before .before .next-token .ensures) (c .before .before .before .before .next .given .1) in omega (arith, n .low, n .high)
+
+loop-again : tie.Need-loop-again Inv-loop μ-loop
+loop-again c =
+    let n = next-is (c .before .before .before .before .before .before .next-token .ensures) (c .before .before .before .before .next .given .1) in
+    let l = c .before .before .before .before .before .before .before .loop .inv in
+    (n .high, l .1 ∙ tail-go n (sym (c .before .before .is-letter .ensures) ∙ c .before .if1 .left) (c .match2 .keys2))
+
+pub tail-ground-spec : {M : Type 1} → statement M
+tail-ground-spec =
+    tie.close
+    (tie.spec
+    Inv-loop
+    μ-loop
+    loop-holds
+    next-token-requires
+    enum-told
+    returns
+    enum-known-next
+    is-letter-requires
+    returns-2
+    enum-known-t
+    returns-3
+    loop-less
+    loop-again)
