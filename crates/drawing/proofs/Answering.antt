@@ -1,26 +1,25 @@
 -- From a run to the answer.
 use mathlib.Core.Path.{_≡_, refl, sym, _∙_}
-use mathlib.Core.List.{List, _++_}
+use mathlib.Core.List.{List, [], _∷_, _++_}
 use mathlib.Core.Logic.{⊎-elim}
-use Prim.Native.Nat.{ℕ, _*_, _/_, _≤_, _<_, min}
+use Prim.Native.Nat.{ℕ, _/_, _≤_, _<_, min}
 use native.Mathlib.Omega.{arith}
 use lib.Ieee.{Float}
-use lib.ListN.{length, take, drop}
+use lib.ListN.{length}
 use borrow.Author.Tests.{lt-ltb, le-ltb}
 use Rattle.scan.proofs.Laws.{le-or-lt}
 use Rattle.refusal.specs.Refusal.{textGround}
 use Rattle.refusal.specs.declared.Refusal.{Refusal}
 use Rattle.refusal.specs.declared.Refusal.the-variants.{ScaleTooLarge, NoRoom}
 use Rattle.refusal.specs.declared.Checked.the-variants.{Good, Bad}
-use Rattle.tag.specs.Table.{laid}
-use Rattle.tag.proofs.Table.{laid-copied}
 use Rattle.tokens.specs.Tokens.{from, tokensGround}
 use Rattle.drawing.specs.declared.machine.Traced.{Traced}
-use Rattle.drawing.specs.declared.Drawing.{Drawing}
 use Rattle.drawing.specs.declared.Drawing.the-variants.{Drawn, Refused}
 use Rattle.drawing.specs.Drawing.{scaleOf}
 use Rattle.drawing.specs.Answer.{unless, ground, drawing, answer, after, Answered}
-use Rattle.drawing.specs.Inner.{Traces, Begun}
+use Rattle.drawing.specs.Inner.{Traces}
+use Rattle.tokens.specs.Inner.{Straight}
+use Rattle.drawing.proofs.Weighing.{few-by-weight}
 use Rattle.drawing.proofs.Emitting.{emits-all}
 
 -- a text with no ground 1 is short
@@ -42,66 +41,50 @@ module _ (s t : List ℕ) (x : ℕ) where
     unfolding ground answer after
     answered-large h e = record { drawing = rw (good, lt-ltb 32 x h, e); path = rw (good, lt-ltb 32 x h, e) }
 
-    module _ (l : x ≤ 32) {k : Float} {d : Traced} {w v : List ℕ} (z : Traces s k w d v) where
-      pub answered-token : {r : Refusal} → d .ground ≡ Bad r → Answered s x t (Refused r) t
-      unfolding ground answer after
-      answered-token q = let g = sym (z .ground) ∙ q in record { drawing = rw (good, g); path = rw (good, g) }
+    module _ (l : x ≤ 32) {k : Float} (f : k ≡ scaleOf x) {m : ℕ} (p : m ≡ min (length t / 8) 1024) where
+      is-good : tokensGround (from s 0) ≡ Good → ground s x ≡ Good
+      unfolding ground
+      is-good g = rw (good, g, le-ltb 32 x l)
 
-      -- a run without ground 3, from the scratch path w to v
-      module _ (q : d .ground ≡ Good) (f : k ≡ scaleOf x) {m : ℕ} (p : m ≡ min (length t / 8) 1024) where
-        is-good : ground s x ≡ Good
-        unfolding ground
-        is-good = let g = sym (z .ground) ∙ q in rw (good, g, le-ltb 32 x l)
+      -- how many commands a run without ground 3 gives
+      counted : {w v : List ℕ} {d : Traced} → Traces s k w d v → d .ground ≡ Good → d .n ≡ length (drawing s x)
+      counted z q = z .emits q .count ∙ rw f (omega arith)
 
-        counted : d .n ≡ length (drawing s x)
-        counted = z .emits q .count ∙ rw f (omega arith)
+      -- a run into the path itself, where there is room for them
+      drawn : {d : Traced} {v : List ℕ} → Traces s k t d v → tokensGround (from s 0) ≡ Good → length (drawing s x) ≤ m → Answered s x t (Drawn (d .n)) v
+      unfolding answer after
+      drawn z g h =
+          let q = z .ground ∙ g in
+          let c = counted z q in
+          let y = le-ltb (min (length t / 8) 1024) (length (drawing s x)) (rw p at h) in
+          record { drawing = rw (is-good g, y, c); path = rw (is-good g, y) (emits-all (z .emits q) ∙ rw f) }
 
-        pub answered-full : m < d .n → Answered s x t (Refused (NoRoom (d .n))) t
-        unfolding answer after
-        answered-full h =
-            let o : min (length t / 8) 1024 < length (drawing s x) = rw (← counted, ← p) h in
-            let y = lt-ltb (min (length t / 8) 1024) (length (drawing s x)) o in
-            record { drawing = rw (is-good, y, counted); path = rw (is-good, y) }
+      -- one run, where nothing can stand against the drawing
+      pub straight-drawn : {d : Traced} {v : List ℕ} → Straight s m → Traces s k t d v → Answered s x t (Drawn (d .n)) v
+      straight-drawn a z = drawn z (a .good) (omega (arith, a .few, few-by-weight (scaleOf x) (from s 0)))
 
-        is-drawn : d .n ≤ m → Drawn (d .n) ≡ answer s x (length t / 8)
-        unfolding answer
-        is-drawn h =
-            let o : length (drawing s x) ≤ min (length t / 8) 1024 = rw (← counted, ← p) h in
-            let y = le-ltb (min (length t / 8) 1024) (length (drawing s x)) o in
-            rw (is-good, y, counted)
+      -- first into no path, which leaves the lent one as it was
+      module _ {d : Traced} {w : List ℕ} (z : Traces s k [] d w) where
+        dry : w ++ t ≡ t
+        dry = rw (none w (z .same))
+          where
+            none : (w : List ℕ) → length w ≡ 0 → w ≡ []
+            none [] e = refl
+            none (a ∷ w) e = absurd (omega arith)
 
-        pub begun-few : d .n ≤ m → d .n ≤ 32 → length w ≡ 256 → Begun s x t (Drawn (d .n)) (take (8 * d .n) v ++ drop (8 * d .n) t)
-        unfolding after
-        begun-few h i j =
-            let o : v ≡ laid w (drawing s x) = emits-all (z .emits q) ∙ rw f in
-            let a : 8 * d .n ≤ length w = omega arith in
-            let b : 8 * d .n ≤ length t = omega arith in
-            let y = is-drawn h in
-            record {
-              drawing = y;
-              few = λ g. rw (← y, o, counted) (laid-copied (drawing s x) w t (rw counted at a) (rw counted at b));
-              many = λ (g : 32 < d .n). absurd (omega arith);
-            }
+        pub dry-refused : {r : Refusal} → d .ground ≡ Bad r → Answered s x t (Refused r) (w ++ t)
+        unfolding ground answer after
+        dry-refused q = let g = sym (z .ground) ∙ q in record { drawing = rw (good, g); path = rw (good, g) dry }
 
-        -- more commands than the scratch path has are not copied
-        pub begun-many : d .n ≤ m → 32 < d .n → Begun s x t (Drawn (d .n)) t
-        begun-many h i = record { drawing = is-drawn h; few = λ (g : d .n ≤ 32). absurd (omega arith); many = λ g. (refl, sym (z .ground) ∙ q) }
+        module _ (q : d .ground ≡ Good) where
+          pub dry-full : m < d .n → Answered s x t (Refused (NoRoom (d .n))) (w ++ t)
+          unfolding answer after
+          dry-full h =
+              let g = is-good (sym (z .ground) ∙ q) in
+              let c = counted z q in
+              let o : min (length t / 8) 1024 < length (drawing s x) = rw (← c, ← p) h in
+              let y = lt-ltb (min (length t / 8) 1024) (length (drawing s x)) o in
+              record { drawing = rw (g, y, c); path = rw (g, y) dry }
 
-  pub begun-none : {r : Refusal} → Answered s x t (Refused r) t → Begun s x t (Refused r) t
-  begun-none a = record { drawing = a .drawing; few = λ h. a .path; many = λ h. absurd (omega arith) }
-
-  -- what the second run adds to the first, which answered o and left u
-  module _ {o : Drawing} {u : List ℕ} (b : Begun s x t o u) where
-    pub none-drawn : (r : Refusal) → o ≡ Refused r → Answered s x t (Refused r) u
-    none-drawn r e = let k = rw e at b in record { drawing = k .drawing; path = k .few (omega arith) }
-
-    pub few-drawn : (n : ℕ) → o ≡ Drawn n → n ≤ 32 → Answered s x t (Drawn n) u
-    few-drawn n e h = let k = rw e at b in record { drawing = k .drawing; path = k .few h }
-
-    pub many-drawn : {k : Float} {d : Traced} {v : List ℕ} (n : ℕ) → o ≡ Drawn n → 32 < n → k ≡ scaleOf x → Traces s k u d v → Answered s x t (Drawn n) v
-    unfolding after
-    many-drawn {k} {d} {v} n e h f z =
-        let g = rw e at b in
-        let y = g .many h in
-        let l : v ≡ laid u (drawing s x) = emits-all (z .emits (z .ground ∙ y .1)) ∙ rw f in
-        record { drawing = g .drawing; path = rw (← g .drawing) (rw (y .0) at l) }
+          pub dry-drawn : {e : Traced} {v : List ℕ} → d .n ≤ m → Traces s k (w ++ t) e v → Answered s x t (Drawn (e .n)) v
+          dry-drawn h a = drawn (rw dry at a) (sym (z .ground) ∙ q) (rw (counted z q) at h)

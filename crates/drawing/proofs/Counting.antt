@@ -22,44 +22,64 @@ use Rattle.drawing.specs.declared.machine.Command.the-variants.{Move, Mo
 use Rattle.tokens.specs.Tokens.{isLetter, untilLetter}
 use Rattle.drawing.specs.Drawing.{Read1, none1, point, Read3, none3, points, behindNumber, readPoint, behindPoint, readThree, Turn, turned, splinePoint, byMode, settled, pointedBy, curveBy, bareBy, continues, closesFirst, movesBy, command, commandOf, letterTurn, turnOf, walk, start, draw}
 
--- what is read leaves at least two tokens less than n
-abbrev Two1 : ℕ → Read1 → Type 0
-Two1 n none1 = Unit
-Two1 n (point p ts) = length ts + 2 ≤ n
+-- ---- what is read, by a measure of the tokens that each token adds at least one to
 
-abbrev Two3 : ℕ → Read3 → Type 0
-Two3 n none3 = Unit
-Two3 n (points p q r ts) = length ts + 2 ≤ n
+module _ (μ : List Token → ℕ) (more : (t : Token) (ts : List Token) → μ ts + 1 ≤ μ (t ∷ ts)) where
+  -- what is read leaves at least two less than n
+  abbrev pub Two1 : ℕ → Read1 → Type 0
+  Two1 n none1 = Unit
+  Two1 n (point p ts) = μ ts + 2 ≤ n
 
-number-shorter : (n : ℕ) (ts : List Token) (f : Float → List Token → Read1) → ((x : Float) (us : List Token) → length us < length ts → Two1 n (f x us)) → Two1 n (behindNumber ts f)
-number-shorter n [] f h = tt
-number-shorter n (Letter b ∷ ts) f h = tt
-number-shorter n (Number x ∷ ts) f h = h x ts (omega arith)
-number-shorter n (Refused p ∷ ts) f h = tt
-number-shorter n (Other ∷ ts) f h = tt
+  abbrev pub Two3 : ℕ → Read3 → Type 0
+  Two3 n none3 = Unit
+  Two3 n (points p q r ts) = μ ts + 2 ≤ n
 
-read-shorter : (k : Float) (ts : List Token) → Two1 (length ts) (readPoint k ts)
-read-shorter k ts = number-shorter (length ts) ts _ (λ x us a. number-shorter (length ts) us _ (λ y vs b. omega arith))
+  number-less : (n : ℕ) (ts : List Token) (f : Float → List Token → Read1) → ((x : Float) (us : List Token) → μ us < μ ts → Two1 n (f x us)) → Two1 n (behindNumber ts f)
+  number-less n [] f h = tt
+  number-less n (Letter b ∷ ts) f h = tt
+  number-less n (Number x ∷ ts) f h = h x ts (omega (arith, more (Number x) ts))
+  number-less n (Refused p ∷ ts) f h = tt
+  number-less n (Other ∷ ts) f h = tt
 
-point-shorter : (n : ℕ) (r : Read1) (f : Point → List Token → Read3) → Two1 n r → ((p : Point) (us : List Token) → length us + 2 ≤ n → Two3 n (f p us)) → Two3 n (behindPoint r f)
-point-shorter n none1 f h g = tt
-point-shorter n (point p us) f h g = g p us h
+  pub read-less : (k : Float) (ts : List Token) → Two1 (μ ts) (readPoint k ts)
+  read-less k ts = number-less (μ ts) ts _ (λ x us a. number-less (μ ts) us _ (λ y vs b. omega arith))
 
-three-shorter : (k : Float) (ts : List Token) → Two3 (length ts) (readThree k ts)
-three-shorter k ts =
-    point-shorter n (readPoint k ts) _ (read ts (le-refl n)) (λ p us a.
-    point-shorter n (readPoint k us) _ (read us (omega arith)) (λ q vs b.
-    point-shorter n (readPoint k vs) _ (read vs (omega arith)) (λ r ws c. c)))
-  where
-    n : ℕ
-    n = length ts
+  point-less : (n : ℕ) (r : Read1) (f : Point → List Token → Read3) → Two1 n r → ((p : Point) (us : List Token) → μ us + 2 ≤ n → Two3 n (f p us)) → Two3 n (behindPoint r f)
+  point-less n none1 f h g = tt
+  point-less n (point p us) f h g = g p us h
 
-    weaker : (m : ℕ) (r : Read1) → m ≤ n → Two1 m r → Two1 n r
-    weaker m none1 l h = tt
-    weaker m (point p us) l h = omega arith
+  pub three-less : (k : Float) (ts : List Token) → Two3 (μ ts) (readThree k ts)
+  three-less k ts =
+      point-less n (readPoint k ts) _ (read ts (le-refl n)) (λ p us a.
+      point-less n (readPoint k us) _ (read us (omega arith)) (λ q vs b.
+      point-less n (readPoint k vs) _ (read vs (omega arith)) (λ r ws c. c)))
+    where
+      n : ℕ
+      n = μ ts
 
-    read : (us : List Token) → length us ≤ n → Two1 n (readPoint k us)
-    read us l = weaker (length us) (readPoint k us) l (read-shorter k us)
+      weaker : (m : ℕ) (r : Read1) → m ≤ n → Two1 m r → Two1 n r
+      weaker m none1 l h = tt
+      weaker m (point p us) l h = omega arith
+
+      read : (us : List Token) → μ us ≤ n → Two1 n (readPoint k us)
+      read us l = weaker (μ us) (readPoint k us) l (read-less k us)
+
+-- ---- by their number
+
+longer : (t : Token) (ts : List Token) → length ts + 1 ≤ length (t ∷ ts)
+longer t ts = omega arith
+
+abbrev Short1 : ℕ → Read1 → Type 0
+Short1 = Two1 length longer
+
+abbrev Short3 : ℕ → Read3 → Type 0
+Short3 = Two3 length longer
+
+read-shorter : (k : Float) (ts : List Token) → Short1 (length ts) (readPoint k ts)
+read-shorter = read-less length longer
+
+three-shorter : (k : Float) (ts : List Token) → Short3 (length ts) (readThree k ts)
+three-shorter = three-less length longer
 
 until-shorter : (ts : List Token) → length (untilLetter ts) ≤ length ts
 unfolding untilLetter
@@ -87,13 +107,13 @@ point-two Lines pen p = omega arith
 point-two Cubics pen p = omega arith
 point-two (Spline c) pen p = spline-two (pen .cur) (pen .opened) c p
 
-pointed-counts : (pen : Pen) (r : Read1) (ts : List Token) → Two1 (suc (length ts)) r → Counts (length ts) (pointedBy pen r ts)
+pointed-counts : (pen : Pen) (r : Read1) (ts : List Token) → Short1 (suc (length ts)) r → Counts (length ts) (pointedBy pen r ts)
 pointed-counts pen none1 ts h = nothing (length ts) (settled pen) ts (le-refl (length ts))
 pointed-counts pen (point p rest) ts h =
     let w = point-two (pen .mode) pen p in
     record { shorter = omega arith; few = omega arith }
 
-curve-counts : (pen : Pen) (r : Read3) (ts : List Token) → Two3 (suc (length ts)) r → Counts (length ts) (curveBy pen r ts)
+curve-counts : (pen : Pen) (r : Read3) (ts : List Token) → Short3 (suc (length ts)) r → Counts (length ts) (curveBy pen r ts)
 curve-counts pen none3 ts h = nothing (length ts) pen ts (le-refl (length ts))
 curve-counts pen (points p q r rest) ts h = record { shorter = omega arith; few = omega arith }
 
@@ -108,7 +128,7 @@ closing-one false b = omega arith
 closing-one true false = omega arith
 closing-one true true = omega arith
 
-moves-counts : (closes : Bool) (pen : Pen) (r : Read1) (ts : List Token) → Two1 (length ts) r → Counts (length ts) (movesBy closes pen r ts)
+moves-counts : (closes : Bool) (pen : Pen) (r : Read1) (ts : List Token) → Short1 (length ts) r → Counts (length ts) (movesBy closes pen r ts)
 moves-counts closes pen none1 ts h = nothing (length ts) pen ts (le-refl (length ts))
 moves-counts closes pen (point p rest) ts h =
     let w = closing-one closes (pen .opened) in

@@ -6,3 +6,4 @@ pub mod Grounds
 pub mod Answering
 pub mod Within
 pub mod Finite
+pub mod Weighing

@@ -21,9 +21,8 @@ use Rattle.drawing.specs.declared.pen.Pen.{Pen}
 use Rattle.drawing.specs.declared.pen.Stroke.{Stroke}
 use Rattle.drawing.specs.declared.machine.Stand.{Stand}
 use Rattle.drawing.specs.declared.machine.Traced.{Traced}
-use Rattle.drawing.specs.declared.Drawing.{Drawing}
 use Rattle.drawing.specs.Drawing.{Read1, none1, point, Read3, none3, points, readPoint, readThree, penOf, Gives, Turn, turnOf, draw}
-use Rattle.drawing.specs.Answer.{unless, answer, after, placesOf, commandsDrawn}
+use Rattle.drawing.specs.Answer.{unless}
 
 -- ---- points
 
@@ -95,9 +94,3 @@ pub record Traces (s : List ℕ) (k : Float) (t : List ℕ) (r : Traced) (u : Li
   pub emits : r .ground ≡ Good → Emits t 0 (draw k (from s 0)) (r .n) u
   pub few : r .n ≤ 2 * length s
   pub same : length u ≡ length t
-
--- the first run, by a scratch path of 32 commands: the answer; up to 32 commands are in the path, more are not, and no numeral is refused
-pub record Begun (s : List ℕ) (exponent : ℕ) (t : List ℕ) (r : Drawing) (u : List ℕ) : Type 0 where
-  pub drawing : r ≡ answer s exponent (placesOf t)
-  pub few : commandsDrawn r ≤ 32 → u ≡ after s exponent t
-  pub many : 32 < commandsDrawn r → (u ≡ t) × (tokensGround (from s 0) ≡ Good)

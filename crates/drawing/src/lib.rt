@@ -7,7 +7,6 @@ ghost use Rattle.refusal.specs.declared.Refusal.the-variants.{ScaleTooLarge};
 ghost use Rattle.tokens.specs.Tokens.{from as tokensFrom, tokensGround};
 ghost use Rattle.drawing.specs.Drawing.{scaleOf};
 ghost use Rattle.drawing.specs.Answer.{unless, Answered};
-ghost use Rattle.drawing.specs.Inner.{Begun};
 
 mod machine;
 mod path;
@@ -36,25 +35,27 @@ fn scale_of(exponent: u32) -> f32
     1.0 / float::nearest_u32(1 << (exponent - 1))
 }
 
-// Draws into a scratch path; up to 32 commands, if nothing stands against them, are copied into the lent one.
-fn draw_few(text: &[u8], exponent: u32, path: &mut [u32]) -> Drawing
+// Draws where grounds 1, 2 and 7 don't stand: in one run where a first look rules out grounds 3 and 9; else first into no path.
+fn draw_good(text: &[u8], exponent: u32, path: &mut [u32]) -> Drawing
     requires { ⌜ (textGround (now text) ≡ Good) × (exponent ≤ 32) ⌝ }
-    ensures { λ r. ⌜ Begun (now (text .entry)) exponent (now (path .entry)) r (now (path .exit)) ⌝ }
+    ensures { λ r. ⌜ Answered (now (text .entry)) exponent (now (path .entry)) r (now (path .exit)) ⌝ }
 {
-    let mut scratch = [1u32; 256];
-    let drawn = draw(text, scale_of(exponent), &mut scratch);
-    let ground = drawn.ground;
+    let scale = scale_of(exponent);
+    let places = least(path.len() / 8, 1024);
+    if tokens::straight(text, places) {
+        let drawn = draw(text, scale, path);
+        return Drawing::Drawn(drawn.n);
+    }
+    let seen = draw(text, scale, &mut path[..0]);
+    let ground = seen.ground;
     match ground {
         Checked::Bad(r) => Drawing::Refused(r),
         Checked::Good => {
-            let n = drawn.n;
-            if n > least(path.len() / 8, 1024) {
-                return Drawing::Refused(Refusal::NoRoom(n));
+            if seen.n > places {
+                return Drawing::Refused(Refusal::NoRoom(seen.n));
             }
-            if n <= 32 {
-                tag::copy(&scratch, n, path);
-            }
-            Drawing::Drawn(n)
+            let drawn = draw(text, scale, path);
+            Drawing::Drawn(drawn.n)
         }
     }
 }
@@ -70,7 +71,7 @@ fn too_large(text: &[u8]) -> Refusal
     }
 }
 
-// 01, src/drawing.rs: the path of a drawing, by a scratch path, and once more, into the lent one, where that holds too few commands.
+// 01, src/drawing.rs: the path of a drawing.
 pub fn parse_drawing(text: &[u8], exponent: u32, path: &mut [u32]) -> Drawing
     ensures { λ r. ⌜ Answered (now (text .entry)) exponent (now (path .entry)) r (now (path .exit)) ⌝ }
 {
@@ -81,16 +82,7 @@ pub fn parse_drawing(text: &[u8], exponent: u32, path: &mut [u32]) -> Drawing
             if exponent > 32 {
                 return Drawing::Refused(too_large(text));
             }
-            let answer = draw_few(text, exponent, path);
-            match answer {
-                Drawing::Refused(r) => Drawing::Refused(r),
-                Drawing::Drawn(n) => {
-                    if n > 32 {
-                        let _ = draw(text, scale_of(exponent), path);
-                    }
-                    Drawing::Drawn(n)
-                }
-            }
+            draw_good(text, exponent, path)
         }
     }
 }

@@ -26,7 +26,8 @@ use Rattle.read.specs.Block.{Got, nothing, join, oneGot, paramAt, nameEn
 use Rattle.read.specs.Reading.{wholeText, braceEnd, lessBraces}
 use Rattle.scan.proofs.Bounds.{tested, span-to-high, past-high, trim-start-low, trim-start-high, trim-end-low, trim-end-high}
 use Rattle.tag.specs.WellFormed.{All, all, more}
-use Rattle.read.proofs.Inside.{span-ends, not-stops, Between, nowhere, there, between-wider, F32In, no-numeral, too-long, a-number, f32-in}
+use Rattle.survey.proofs.Fields.{span-ends, not-stops}
+use Rattle.read.proofs.Inside.{Between, nowhere, there, between-wider, F32In, no-numeral, too-long, a-number, f32-in}
 use Rattle.read.proofs.Walk.{name-low}
 
 -- ---- a tag's name and parameter

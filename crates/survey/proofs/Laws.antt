@@ -12,7 +12,7 @@ use borrow.Author.Tests.{eq-eqb, ne-eqb}
 use Rattle.scan.proofs.Laws.{more, none, le-or-lt, picked, span-low, passed-span}
 use Rattle.scan.specs.Scan.{pick, spanTo, back, backTo}
 use Rattle.numeral.specs.Numeral.{isDigit}
-use Rattle.survey.specs.Survey.{slashes, slashesTo, Ten, Exponent, endsField, Unplain, ten, exponent, Straight}
+use Rattle.survey.specs.Survey.{slashes, slashesTo, Ten, Exponent, endsField, Unplain, ten, exponent}
 
 -- ---- backslashes, one byte more
 
@@ -57,16 +57,9 @@ ten-around s i k e j a b c h t f =
 
 -- ---- the whole look
 
--- what is not said to be plain need not be
-pub never : (s : List ℕ) (i e places : ℕ) → false ≡ true → Straight s i e places
-never s i e places h = absurd (true≢false (sym h))
-
-pub straight-is : (s : List ℕ) (i e places : ℕ) → slashesTo s i e ≤ places → ((j : ℕ) → i ≤ j → j + 1 < e → Exponent s j → endsField s (j + 1) e ≡ true → ⊥) → ((j : ℕ) → i ≤ j → j + 10 ≤ e → Ten s j → ⊥) → Straight s i e places
-straight-is s i e places f x t = record { plain = plain; few = f }
-  where
-    plain : Unplain s e i e → ⊥
-    plain (ten j a b h) = t j a b h
-    plain (exponent j a b h k) = x j a b h k
+pub plain-is : (s : List ℕ) (i e : ℕ) → ((j : ℕ) → i ≤ j → j + 1 < e → Exponent s j → endsField s (j + 1) e ≡ true → ⊥) → ((j : ℕ) → i ≤ j → j + 10 ≤ e → Ten s j → ⊥) → Unplain s e i e → ⊥
+plain-is s i e x t (ten j a b h) = t j a b h
+plain-is s i e x t (exponent j a b h k) = x j a b h k
 
 -- ---- a wider text
 

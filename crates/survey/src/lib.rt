@@ -5,7 +5,7 @@ ghost use Prim.Native.Nat.{ℕ, _+_, _-_, _≤_, _<_};
 ghost use Rattle.scan.specs.Scan.{spanTo, backTo};
 ghost use Rattle.numeral.specs.Numeral.{isDigit};
 ghost use lib.ListN.{length};
-ghost use Rattle.survey.specs.Survey.{slashesTo, isExponent, isStop, endsField, Ten, Exponent, Straight};
+ghost use Rattle.survey.specs.Survey.{slashesTo, isExponent, isStop, endsField, Ten, Exponent, Unplain, Straight};
 
 // Whether the byte b is an e and a, before it, a digit or a point.
 fn is_exponent(a: u8, b: u8) -> bool
@@ -139,18 +139,27 @@ fn few_slashes(text: &[u8], from: usize, to: usize, most: usize) -> bool
     slashes(text, from, to) <= most
 }
 
-// Whether a text can be read straight into a table with so many places: neither ground 3 nor 4 nor 9 can stand against it.
+// Whether no numeral in a text can be too long and no number far: neither ground 3 nor 4 can stand against it.
+pub fn plain(text: &[u8], from: usize, to: usize) -> bool
+    requires { ⌜ (from ≤ to) × (to ≤ length (now text)) ⌝ }
+    ensures { λ r. ⌜ (r ≡ true → Unplain (now (text .entry)) to from to → ⊥) ⌝ }
+{
+    if no_ten(text, from, to) {
+        if no_exponent(text, from, to) {
+            return true;
+        }
+        return harmless(text, from, to);
+    }
+    false
+}
+
+// Whether a block can be read straight into a table with so many places: ground 9 can't stand either.
 pub fn straight(text: &[u8], from: usize, to: usize, places: usize) -> bool
     requires { ⌜ (from ≤ to) × (to ≤ length (now text)) ⌝ }
     ensures { λ r. ⌜ (r ≡ true → Straight (now (text .entry)) from to places) ⌝ }
 {
     if few_slashes(text, from, to, places) {
-        if no_ten(text, from, to) {
-            if no_exponent(text, from, to) {
-                return true;
-            }
-            return harmless(text, from, to);
-        }
+        return plain(text, from, to);
     }
     false
 }

@@ -1,2 +1,3 @@
 pub mod Words
 pub mod Following
+pub mod Looking

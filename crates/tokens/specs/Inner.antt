@@ -1,12 +1,15 @@
 -- What the inner functions say, in the code's words: nothing here is a promise to a caller.
 use mathlib.Core.Path.{_≡_}
 use mathlib.Core.List.{List, [], _∷_}
-use Prim.Native.Nat.{ℕ, _≤_, _<_}
+use Prim.Native.Nat.{ℕ, _+_, _*_, _≤_, _<_}
 use lib.ListN.{length}
+use Rattle.refusal.specs.declared.Checked.the-variants.{Good}
+use Rattle.survey.specs.Survey.{Unplain}
 use Rattle.tokens.specs.declared.Token.{Token}
+use Rattle.tokens.specs.declared.Token.the-variants.{Letter, Number, Refused, Other}
 use Rattle.tokens.specs.declared.Next.{Next}
 use Rattle.tokens.specs.declared.Next.the-variants.{End, Is}
-use Rattle.tokens.specs.Tokens.{from, untilLetter}
+use Rattle.tokens.specs.Tokens.{from, untilLetter, tokensGround}
 
 -- a token and the place behind it as the tokens from i on
 abbrev pub listed : List ℕ → Next → List Token
@@ -33,3 +36,22 @@ pub record Skips (s : List ℕ) (i r : ℕ) : Type 0 where
   pub is : from s r ≡ untilLetter (from s i)
   pub low : i ≤ r
   pub high : r ≤ length s
+
+-- ---- a first look at a drawing
+
+-- what tokens weigh: a letter two, any other one
+unfoldable pub weight : List Token → ℕ
+weight [] = 0
+weight (Letter b ∷ ts) = weight ts + 2
+weight (Number x ∷ ts) = weight ts + 1
+weight (Refused p ∷ ts) = weight ts + 1
+weight (Other ∷ ts) = weight ts + 1
+
+-- the tokens from i on weigh, with w, at most so much, and if the text is plain none is refused
+pub record Light (s : List ℕ) (i w most : ℕ) : Type 0 where
+  pub few : w + weight (from s i) ≤ most
+  pub good : (Unplain s (length s) 0 (length s) → ⊥) → tokensGround (from s i) ≡ Good
+
+pub record Straight (s : List ℕ) (places : ℕ) : Type 0 where
+  pub few : weight (from s 0) ≤ 2 * places
+  pub good : tokensGround (from s 0) ≡ Good

@@ -1,9 +1,10 @@
 // The tokens of a drawing's text: what stands between its blanks.
 ghost use mathlib.Core.Path.{_≡_};
+ghost use mathlib.Core.Bool.{true};
 ghost use Prim.Native.Nat.{_≤_, _<_};
 ghost use lib.ListN.{length};
 ghost use Rattle.tokens.specs.Tokens.{lower as lowerOf, spells as spellsAt, special as specialAt, oneLetter, tokenOf, tokenEnd, isLetter, from as tokensFrom, tail, tokensGround};
-ghost use Rattle.tokens.specs.Inner.{Follows, Skips};
+ghost use Rattle.tokens.specs.Inner.{Follows, Skips, Light, Straight};
 use refusal::Checked;
 use refusal::Refusal;
 
@@ -197,4 +198,52 @@ pub fn check_tokens(text: &[u8]) -> Checked
             }
         }
     }
+}
+
+// Whether a token that is no single letter may be inf, infinity or nan: it begins with a letter, behind a sign.
+fn wordy(text: &[u8], a: usize, b: usize) -> bool
+    requires { ⌜ (a < b) × (b ≤ length (now text)) ⌝ }
+    ensures { λ r. ⌜ (specialAt (now (text .entry)) a b ≡ true → r ≡ true) ⌝ }
+{
+    let i = scan::past(text, scan::Class::Either(43, 45), a, b);
+    i < scan::past(text, scan::Class::Letter, i, b)
+}
+
+// Whether the tokens weigh at most so much, letters twice, and none is a word: such a text has no more than half as many commands.
+fn light(text: &[u8], most: usize) -> bool
+    requires { ⌜ (length (now text) ≤ 12288) × (most ≤ 65536) ⌝ }
+    ensures { λ r. ⌜ (r ≡ true → Light (now (text .entry)) 0 0 most) ⌝ }
+{
+    let mut i = 0;
+    let mut w = 0;
+    loop {
+        let a = scan::trim_start(text, i, text.len());
+        if a >= text.len() {
+            return true;
+        }
+        let b = token_end(text, a + 1);
+        if one_letter(text, a, b) {
+            w += 2;
+        } else {
+            if wordy(text, a, b) {
+                return false;
+            }
+            w += 1;
+        }
+        if w > most {
+            return false;
+        }
+        i = b;
+    }
+}
+
+// Whether a drawing can be drawn straight into a path with so many places: no token is refused, and there is room.
+pub fn straight(text: &[u8], places: usize) -> bool
+    requires { ⌜ (length (now text) ≤ 12288) × (places ≤ 1024) ⌝ }
+    ensures { λ r. ⌜ (r ≡ true → Straight (now (text .entry)) places) ⌝ }
+{
+    if light(text, 2 * places) {
+        return survey::plain(text, 0, text.len());
+    }
+    false
 }

@@ -1,0 +1,93 @@
+use mathlib.Core.Path.{sym, _∙_}
+use mathlib.Core.Bool.{true≢false}
+use mathlib.Core.Logic.{⊎-elim}
+use Prim.Native.Nat.{_-_, _≤_}
+use lib.ListN.{length}
+use borrow.Author.Needs.{needs}
+use Rattle.tokens.specs.Inner.{Light}
+use Rattle.tokens.proofs.Looking.{light-end, light-letter, light-other}
+use Rattle.tokens.proofs.light.Statement.{statement}
+use Rattle.tokens.proofs.light.Tie as tie
+use Rattle.tokens.proofs.light.Reads as reads
+use Rattle.tokens.proofs.light.Lts as lts
+use Rattle.scan.proofs.trim_start.Reads as trim-start-reads
+use Rattle.tokens.proofs.one_letter.Reads as one-letter-reads
+use Rattle.tokens.proofs.token_end.Reads as token-end-reads
+use Rattle.tokens.proofs.wordy.Reads as wordy-reads
+
+abbrev Inv-loop : tie.InvT-loop
+Inv-loop text most i₀ w₀ i w = (i ≤ length text) × (w ≤ most) × (Light text i w most → Light text 0 0 most)
+
+abbrev μ-loop : tie.MeasureT-loop
+μ-loop text most i₀ w₀ i w = length text - i
+
+loop-holds : tie.Need-loop-holds Inv-loop μ-loop
+loop-holds c = (search needs, search needs, λ l. l)
+
+trim-start-requires : tie.Need-trim-start-requires Inv-loop μ-loop
+trim-start-requires c κs = search needs
+
+returns : tie.Need-returns Inv-loop μ-loop
+returns c h = c .before .before .loop .inv .2 (light-end _ _ _ _ _ (c .before .trim-start .ensures .is) (c .if1 .taken) (c .before .before .loop .inv .1))
+
+add-token-end : tie.Need-add-token-end Inv-loop μ-loop
+add-token-end c = search needs
+
+token-end-requires : tie.Need-token-end-requires Inv-loop μ-loop
+token-end-requires c κs = search needs
+
+one-letter-requires : tie.Need-one-letter-requires Inv-loop μ-loop
+one-letter-requires c κs = search needs
+
+add-w : tie.Need-add-w Inv-loop μ-loop
+add-w c = search needs
+
+wordy-requires : tie.Need-wordy-requires Inv-loop μ-loop
+wordy-requires c κs = search needs
+
+returns-2 : tie.Need-returns-2 Inv-loop μ-loop
+returns-2 c h = absurd (true≢false (sym h))
+
+add-w-2 : tie.Need-add-w-2 Inv-loop μ-loop
+add-w-2 c = search needs
+
+returns-3 : tie.Need-returns-3 Inv-loop μ-loop
+returns-3 c h = absurd (true≢false (sym h))
+
+loop-less : tie.Need-loop-less Inv-loop μ-loop
+loop-less c = search needs
+
+loop-again : tie.Need-loop-again Inv-loop μ-loop
+loop-again c =
+    let l = c .before .before .before .before .before .before .loop in
+    let t = c .before .before .before .before .before .trim-start .ensures .is in
+    let a = c .before .before .before .before .if1 .left in
+    let e = c .before .before .before .token-end .ensures in
+    let o = c .before .before .one-letter .ensures in (
+      search needs,
+      search needs,
+      ⊎-elim
+          (λ w k. l .inv .2 (light-letter _ _ _ _ _ t _ _ a (e .0) (e .2) (sym o ∙ w .0 .taken) (w .1) k))
+          (λ w k. l .inv .2 (light-other _ _ _ _ _ t _ _ a (e .0) (e .2) (sym o ∙ w .0 .left) (λ z. true≢false (sym (w .1 .ensures z) ∙ w .2 .left)) (w .3) k))
+          (c .before .if2 .came),
+    )
+
+pub light-spec : {M : Type 1} → statement M
+light-spec =
+    tie.close
+    (tie.spec
+    Inv-loop
+    μ-loop
+    loop-holds
+    trim-start-requires
+    returns
+    add-token-end
+    token-end-requires
+    one-letter-requires
+    add-w
+    wordy-requires
+    returns-2
+    add-w-2
+    returns-3
+    loop-less
+    loop-again)
