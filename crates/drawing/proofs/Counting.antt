@@ -2,7 +2,7 @@
 use mathlib.Core.Path.{_≡_, refl, ap}
 use mathlib.Core.List.{List, [], _∷_, _++_}
 use mathlib.Core.Bool.{Bool, true, false}
-use Prim.Native.Nat.{ℕ, zero, suc, _+_, _≤_, _<_}
+use Prim.Native.Nat.{ℕ, zero, suc, _+_, _*_, _≤_}
 use native.Mathlib.Omega.{arith}
 use native.Mathlib.Nat.{le-refl}
 use lib.Ieee.{Float}
@@ -22,64 +22,55 @@ use Rattle.drawing.specs.declared.machine.Command.the-variants.{Move, Mo
 use Rattle.tokens.specs.Tokens.{isLetter, untilLetter}
 use Rattle.drawing.specs.Drawing.{Read1, none1, point, Read3, none3, points, behindNumber, readPoint, behindPoint, readThree, Turn, turned, splinePoint, byMode, settled, pointedBy, curveBy, bareBy, continues, closesFirst, movesBy, command, commandOf, letterTurn, turnOf, walk, start, draw}
 
--- ---- what is read, by a measure of the tokens that each token adds at least one to
+-- ---- what is read, by a measure of the tokens that each number adds c to
 
-module _ (μ : List Token → ℕ) (more : (t : Token) (ts : List Token) → μ ts + 1 ≤ μ (t ∷ ts)) where
-  -- what is read leaves at least two less than n
+module _ (c : ℕ) (μ : List Token → ℕ) (more : (x : Float) (ts : List Token) → μ ts + c ≤ μ (Number x ∷ ts)) where
+  -- what is read leaves at least so many numbers less than n
   abbrev pub Two1 : ℕ → Read1 → Type 0
   Two1 n none1 = Unit
-  Two1 n (point p ts) = μ ts + 2 ≤ n
+  Two1 n (point p ts) = μ ts + 2 * c ≤ n
 
   abbrev pub Two3 : ℕ → Read3 → Type 0
   Two3 n none3 = Unit
-  Two3 n (points p q r ts) = μ ts + 2 ≤ n
+  Two3 n (points p q r ts) = μ ts + 6 * c ≤ n
 
-  number-less : (n : ℕ) (ts : List Token) (f : Float → List Token → Read1) → ((x : Float) (us : List Token) → μ us < μ ts → Two1 n (f x us)) → Two1 n (behindNumber ts f)
+  number-less : (n : ℕ) (ts : List Token) (f : Float → List Token → Read1) → ((x : Float) (us : List Token) → μ us + c ≤ μ ts → Two1 n (f x us)) → Two1 n (behindNumber ts f)
   number-less n [] f h = tt
   number-less n (Letter b ∷ ts) f h = tt
-  number-less n (Number x ∷ ts) f h = h x ts (omega (arith, more (Number x) ts))
+  number-less n (Number x ∷ ts) f h = h x ts (more x ts)
   number-less n (Refused p ∷ ts) f h = tt
   number-less n (Other ∷ ts) f h = tt
 
   pub read-less : (k : Float) (ts : List Token) → Two1 (μ ts) (readPoint k ts)
   read-less k ts = number-less (μ ts) ts _ (λ x us a. number-less (μ ts) us _ (λ y vs b. omega arith))
 
-  point-less : (n : ℕ) (r : Read1) (f : Point → List Token → Read3) → Two1 n r → ((p : Point) (us : List Token) → μ us + 2 ≤ n → Two3 n (f p us)) → Two3 n (behindPoint r f)
-  point-less n none1 f h g = tt
-  point-less n (point p us) f h g = g p us h
+  point-less : (n m : ℕ) (r : Read1) (f : Point → List Token → Read3) → Two1 m r → ((p : Point) (us : List Token) → μ us + 2 * c ≤ m → Two3 n (f p us)) → Two3 n (behindPoint r f)
+  point-less n m none1 f h g = tt
+  point-less n m (point p us) f h g = g p us h
 
   pub three-less : (k : Float) (ts : List Token) → Two3 (μ ts) (readThree k ts)
   three-less k ts =
-      point-less n (readPoint k ts) _ (read ts (le-refl n)) (λ p us a.
-      point-less n (readPoint k us) _ (read us (omega arith)) (λ q vs b.
-      point-less n (readPoint k vs) _ (read vs (omega arith)) (λ r ws c. c)))
-    where
-      n : ℕ
-      n = μ ts
-
-      weaker : (m : ℕ) (r : Read1) → m ≤ n → Two1 m r → Two1 n r
-      weaker m none1 l h = tt
-      weaker m (point p us) l h = omega arith
-
-      read : (us : List Token) → μ us ≤ n → Two1 n (readPoint k us)
-      read us l = weaker (μ us) (readPoint k us) l (read-less k us)
+      let n = μ ts in
+      point-less n n (readPoint k ts) _ (read-less k ts) (λ p us a.
+      point-less n (μ us) (readPoint k us) _ (read-less k us) (λ q vs b.
+      point-less n (μ vs) (readPoint k vs) _ (read-less k vs) (λ r ws d. omega arith)))
 
 -- ---- by their number
 
-longer : (t : Token) (ts : List Token) → length ts + 1 ≤ length (t ∷ ts)
-longer t ts = omega arith
+longer : (x : Float) (ts : List Token) → length ts + 1 ≤ length (Number x ∷ ts)
+longer x ts = omega arith
 
 abbrev Short1 : ℕ → Read1 → Type 0
-Short1 = Two1 length longer
+Short1 = Two1 1 length longer
 
 abbrev Short3 : ℕ → Read3 → Type 0
-Short3 = Two3 length longer
+Short3 = Two3 1 length longer
 
 read-shorter : (k : Float) (ts : List Token) → Short1 (length ts) (readPoint k ts)
-read-shorter = read-less length longer
+read-shorter = read-less 1 length longer
 
 three-shorter : (k : Float) (ts : List Token) → Short3 (length ts) (readThree k ts)
-three-shorter = three-less length longer
+three-shorter = three-less 1 length longer
 
 until-shorter : (ts : List Token) → length (untilLetter ts) ≤ length ts
 unfolding untilLetter

@@ -1,17 +1,20 @@
--- A drawing has at most half as many commands as its tokens weigh, a letter two and any other token one.
-use mathlib.Core.Path.{_≡_, refl}
+-- A drawing has no more commands than its tokens weigh: a letter as one, a number as a half, or a sixth behind b.
+use mathlib.Core.Path.{_≡_, refl, sym}
 use mathlib.Core.List.{List, [], _∷_, _++_}
-use mathlib.Core.Bool.{Bool, true, false}
+use mathlib.Core.Bool.{Bool, true, false, true≢false}
+use mathlib.Core.Logic.{_⊎_, inl, inr, ⊎-elim}
 use Prim.Native.Nat.{ℕ, zero, suc, _+_, _*_, _≤_}
 use native.Mathlib.Omega.{arith}
 use native.Mathlib.Nat.{le-refl}
+use lib.Dec.{eqb}
 use lib.Ieee.{Float}
+use borrow.Author.Tests.{eqb-true}
 use lib.ListN.{length, length-append}
-use Rattle.scan.proofs.Laws.{picked}
+use Rattle.scan.specs.Scan.{pick}
 use Rattle.tokens.specs.declared.Token.{Token}
 use Rattle.tokens.specs.declared.Token.the-variants.{Letter, Number, Refused, Other}
-use Rattle.tokens.specs.Tokens.{isLetter, untilLetter}
-use Rattle.tokens.specs.Inner.{weight}
+use Rattle.tokens.specs.Tokens.{lower, untilLetter}
+use Rattle.tokens.specs.Inner.{rateOf, weight}
 use Rattle.drawing.specs.declared.points.Point.{Point}
 use Rattle.drawing.specs.declared.pen.Ctrl.{Ctrl}
 use Rattle.drawing.specs.declared.pen.Ctrl.the-variants.{One, Two, Three, Span}
@@ -23,35 +26,34 @@ use Rattle.drawing.specs.declared.machine.Command.the-variants.{Move, Mo
 use Rattle.drawing.specs.Drawing.{Read1, none1, point, Read3, none3, points, readPoint, readThree, Turn, turned, splinePoint, byMode, settled, settledBy, pointedBy, curveBy, bareBy, continues, movesBy, command, commandOf, letterTurn, turnOf, walk, start, draw}
 use Rattle.drawing.proofs.Counting.{Two1, Two3, read-less, three-less, closing-one}
 
-heavier : (t : Token) (ts : List Token) → weight ts + 1 ≤ weight (t ∷ ts)
+numbered : (r : ℕ) (x : Float) (ts : List Token) → weight r ts + r ≤ weight r (Number x ∷ ts)
 unfolding weight
-heavier (Letter b) ts = omega arith
-heavier (Number x) ts = omega arith
-heavier (Refused p) ts = omega arith
-heavier Other ts = omega arith
+numbered r x ts = le-refl _
 
-abbrev Light1 : ℕ → Read1 → Type 0
-Light1 = Two1 weight heavier
+abbrev Light1 : ℕ → ℕ → Read1 → Type 0
+Light1 r = Two1 r (weight r) (numbered r)
 
-abbrev Light3 : ℕ → Read3 → Type 0
-Light3 = Two3 weight heavier
+abbrev Light3 : ℕ → ℕ → Read3 → Type 0
+Light3 r = Two3 r (weight r) (numbered r)
 
--- what a pen still owes: a spline that has drawn nothing yet draws two commands at once
+-- what a pen still owes, in sixths of a command: a spline that has drawn nothing yet draws two commands at once
 abbrev owed : Mode → ℕ
 owed Idle = 0
 owed Lines = 0
 owed Cubics = 0
-owed (Spline (One a)) = 2
-owed (Spline (Two a b)) = 2
-owed (Spline (Three a b c)) = 2
+owed (Spline (One a)) = 6
+owed (Spline (Two a b)) = 6
+owed (Spline (Three a b c)) = 6
 owed (Spline (Span b c)) = 0
 
--- of a turn of a pen that owes o, on tokens of the weight w
-abbrev Weighs : ℕ → ℕ → Turn → Type 0
-Weighs o w u = 2 * length (u .path) + weight (u .rest) + owed (u .pen .mode) ≤ w + o
+-- numbers weigh three, or one where the pen draws cubics
+abbrev Suits : ℕ → Pen → Type 0
+Suits r pen = (r ≡ 3) ⊎ ((r ≡ 1) × (pen .mode ≡ Cubics))
 
-nothing : (w : ℕ) (pen : Pen) (ts : List Token) → weight ts ≤ w → Weighs (owed (pen .mode)) w (turned pen [] ts)
-nothing w pen ts h = omega arith
+-- of a turn of a pen that owes o, on tokens of the weight w: at the rate r, what is drawn, what is left and what is owed
+pub record Weighs (r o w : ℕ) (u : Turn) : Type 0 where
+  pub suits : Suits r (u .pen)
+  pub bound : 6 * length (u .path) + weight r (u .rest) + owed (u .pen .mode) ≤ w + o
 
 settled-owes : (m : Mode) (pen : Pen) → owed (settledBy m pen .mode) ≤ owed (pen .mode)
 settled-owes Idle pen = le-refl _
@@ -59,70 +61,112 @@ settled-owes Lines pen = le-refl _
 settled-owes Cubics pen = le-refl _
 settled-owes (Spline c) pen = omega arith
 
-spline-weighs : (cur : Point) (opened : Bool) (c : Ctrl) (p : Point) → 2 * length (splinePoint cur opened c p .path) + owed (splinePoint cur opened c p .pen .mode) ≤ 2 + owed (Spline c)
+-- ---- tokens that are no letters
+
+spline-weighs : (cur : Point) (opened : Bool) (c : Ctrl) (p : Point) → 6 * length (splinePoint cur opened c p .path) + owed (splinePoint cur opened c p .pen .mode) ≤ 6 + owed (Spline c)
 spline-weighs cur opened (One a) p = omega arith
 spline-weighs cur opened (Two a b) p = omega arith
 spline-weighs cur opened (Three a b c) p = omega arith
 spline-weighs cur opened (Span b c) p = omega arith
 
-point-weighs : (m : Mode) (pen : Pen) (p : Point) → pen .mode ≡ m → 2 * length (byMode m pen p .path) + owed (byMode m pen p .pen .mode) ≤ 2 + owed m
+point-weighs : (m : Mode) (pen : Pen) (p : Point) → pen .mode ≡ m → 6 * length (byMode m pen p .path) + owed (byMode m pen p .pen .mode) ≤ 6 + owed m
 point-weighs Idle pen p e = rw e (omega arith)
 point-weighs Lines pen p e = omega arith
 point-weighs Cubics pen p e = rw e (omega arith)
 point-weighs (Spline c) pen p e = spline-weighs (pen .cur) (pen .opened) c p
 
-pointed-weighs : (w : ℕ) (pen : Pen) (r : Read1) (ts : List Token) → weight ts ≤ w → Light1 w r → Weighs (owed (pen .mode)) w (pointedBy pen r ts)
-pointed-weighs w pen none1 ts l h = let o = settled-owes (pen .mode) pen in omega arith
-pointed-weighs w pen (point p rest) ts l h = let o = point-weighs (pen .mode) pen p refl in omega arith
+pointed-weighs : (w : ℕ) (pen : Pen) (r : Read1) (ts : List Token) → weight 3 ts ≤ w → Light1 3 w r → Weighs 3 (owed (pen .mode)) w (pointedBy pen r ts)
+pointed-weighs w pen none1 ts l h = let o = settled-owes (pen .mode) pen in record { suits = inl refl; bound = omega arith }
+pointed-weighs w pen (point p rest) ts l h = let o = point-weighs (pen .mode) pen p refl in record { suits = inl refl; bound = omega arith }
 
-curve-weighs : (w : ℕ) (pen : Pen) (r : Read3) (ts : List Token) → weight ts ≤ w → Light3 w r → Weighs (owed (pen .mode)) w (curveBy pen r ts)
-curve-weighs w pen none3 ts l h = omega arith
-curve-weighs w pen (points p q r rest) ts l h = omega arith
+curve-weighs : (r w : ℕ) (pen : Pen) (x : Read3) (ts : List Token) → 1 ≤ r → Suits r pen → weight r ts ≤ w → Light3 r w x → Weighs r (owed (pen .mode)) w (curveBy pen x ts)
+curve-weighs r w pen none3 ts a f l h = record { suits = f; bound = omega arith }
+curve-weighs r w pen (points p q s rest) ts a f l h = record { suits = ⊎-elim (λ z. inl z) (λ z. inr (z .0, refl)) f; bound = omega arith }
 
-bare-weighs : (m : Mode) (k : Float) (pen : Pen) (t : Token) (ts : List Token) → Weighs (owed (pen .mode)) (weight (t ∷ ts)) (bareBy m k pen (t ∷ ts) ts)
-bare-weighs Idle k pen t ts = let l = heavier t ts in omega arith
-bare-weighs Lines k pen t ts = pointed-weighs (weight (t ∷ ts)) pen (readPoint k (t ∷ ts)) ts (omega (arith, heavier t ts)) (read-less weight heavier k (t ∷ ts))
-bare-weighs Cubics k pen t ts = curve-weighs (weight (t ∷ ts)) pen (readThree k (t ∷ ts)) ts (omega (arith, heavier t ts)) (three-less weight heavier k (t ∷ ts))
-bare-weighs (Spline c) k pen t ts = pointed-weighs (weight (t ∷ ts)) pen (readPoint k (t ∷ ts)) ts (omega (arith, heavier t ts)) (read-less weight heavier k (t ∷ ts))
+-- the weight w of all tokens is that of those behind the first and no less than theirs
+bare-weighs : (m : Mode) (r : ℕ) (k : Float) (pen : Pen) (all ts : List Token) → pen .mode ≡ m → 1 ≤ r → Suits r pen → weight r ts ≤ weight r all → Weighs r (owed (pen .mode)) (weight r all) (bareBy m k pen all ts)
+bare-weighs Idle r k pen all ts e a f l = record { suits = f; bound = omega arith }
+bare-weighs Lines r k pen all ts e a f l = ⊎-elim (λ z. rw z (pointed-weighs (weight 3 all) pen (readPoint k all) ts (rw z at l) (read-less 3 (weight 3) (numbered 3) k all))) (λ z. absurd (let w : _≡_ {A = ℕ} 0 1 = cc (z .1) in omega arith)) f
+bare-weighs Cubics r k pen all ts e a f l = curve-weighs r (weight r all) pen (readThree k all) ts a f l (three-less r (weight r) (numbered r) k all)
+bare-weighs (Spline c) r k pen all ts e a f l = ⊎-elim (λ z. rw z (pointed-weighs (weight 3 all) pen (readPoint k all) ts (rw z at l) (read-less 3 (weight 3) (numbered 3) k all))) (λ z. absurd (let w : _≡_ {A = ℕ} 0 1 = cc (z .1) in omega arith)) f
 
-until-lighter : (ts : List Token) → weight (untilLetter ts) ≤ weight ts
-unfolding untilLetter
-until-lighter [] = le-refl _
-until-lighter (t ∷ ts) = picked (λ (l : List Token). weight l ≤ weight (t ∷ ts)) (isLetter t) (t ∷ ts) (untilLetter ts) (le-refl _) (let h = until-lighter ts in omega (arith, heavier t ts))
+-- ---- letters
 
--- behind a letter, which weighs two
-moves-weighs : (closes : Bool) (pen : Pen) (r : Read1) (ts : List Token) → Light1 (weight ts) r → Weighs (owed (pen .mode)) (weight ts + 2) (movesBy closes pen r ts)
-moves-weighs closes pen none1 ts h = omega arith
-moves-weighs closes pen (point p rest) ts h = let w = closing-one closes (pen .opened) in simp length-append (omega arith)
+until-lighter : (r : ℕ) (ts : List Token) → weight r (untilLetter ts) ≤ weight r ts
+unfolding untilLetter weight
+until-lighter r [] = le-refl _
+until-lighter r (Letter b ∷ ts) = le-refl _
+until-lighter r (Number x ∷ ts) = let h = until-lighter r ts in omega arith
+until-lighter r (Refused p ∷ ts) = let h = until-lighter r ts in omega arith
+until-lighter r (Other ∷ ts) = let h = until-lighter r ts in omega arith
 
-command-weighs : (c : Command) (k : Float) (pen : Pen) (ts : List Token) → Weighs (owed (pen .mode)) (weight ts + 2) (command c k pen ts)
-command-weighs Move k pen ts = moves-weighs true pen (readPoint k ts) ts (read-less weight heavier k ts)
-command-weighs MoveOpen k pen ts = moves-weighs false pen (readPoint k ts) ts (read-less weight heavier k ts)
-command-weighs Line k pen ts = omega arith
-command-weighs Cubic k pen ts = omega arith
-command-weighs Basis k pen ts = omega arith
-command-weighs Close k pen ts = omega arith
-command-weighs Unknown k pen ts = let h = until-lighter ts in omega arith
+moves-weighs : (closes : Bool) (pen : Pen) (r : Read1) (ts : List Token) → Light1 3 (weight 3 ts) r → Weighs 3 (owed (pen .mode)) (weight 3 ts + 6) (movesBy closes pen r ts)
+moves-weighs closes pen none1 ts h = record { suits = inl refl; bound = omega arith }
+moves-weighs closes pen (point p rest) ts h = let w = closing-one closes (pen .opened) in record { suits = inl refl; bound = simp length-append (omega arith) }
 
-turn-weighs : (t : Token) (k : Float) (pen : Pen) (ts : List Token) → Weighs (owed (pen .mode)) (weight (t ∷ ts)) (turnOf t k pen (t ∷ ts) ts)
-unfolding letterTurn weight
-turn-weighs (Letter b) k pen ts =
+command-weighs : (c : Command) (k : Float) (pen : Pen) (ts : List Token) → Weighs 3 (owed (pen .mode)) (weight 3 ts + 6) (command c k pen ts)
+command-weighs Move k pen ts = moves-weighs true pen (readPoint k ts) ts (read-less 3 (weight 3) (numbered 3) k ts)
+command-weighs MoveOpen k pen ts = moves-weighs false pen (readPoint k ts) ts (read-less 3 (weight 3) (numbered 3) k ts)
+command-weighs Line k pen ts = record { suits = inl refl; bound = omega arith }
+command-weighs Cubic k pen ts = record { suits = inl refl; bound = omega arith }
+command-weighs Basis k pen ts = record { suits = inl refl; bound = omega arith }
+command-weighs Close k pen ts = record { suits = inl refl; bound = omega arith }
+command-weighs Unknown k pen ts = let h = until-lighter 3 ts in record { suits = inl refl; bound = omega arith }
+
+-- b alone has the lower rate
+rate-command : (b : ℕ) → (rateOf b ≡ 3) ⊎ ((rateOf b ≡ 1) × (commandOf b ≡ Cubic))
+unfolding commandOf
+rate-command b = go (eqb (lower b) 98) refl
+  where
+    go : (t : Bool) → eqb (lower b) 98 ≡ t → (_≡_ {A = ℕ} (pick t 1 3) 3) ⊎ ((_≡_ {A = ℕ} (pick t 1 3) 1) × (commandOf b ≡ Cubic))
+    go true e = inr (refl, rw (eqb-true (lower b) 98 e))
+    go false e = inl refl
+
+letter-weighs : (b : ℕ) (k : Float) (pen : Pen) (ts : List Token) → Weighs (rateOf b) (owed (pen .mode)) (weight (rateOf b) ts + 6) (command (commandOf b) k (settled pen) ts)
+letter-weighs b k pen ts =
     let o = settled-owes (pen .mode) pen in
-    let c = command-weighs (commandOf b) k (settled pen) ts in
-    picked (Weighs (owed (pen .mode)) (weight ts + 2)) (continues (pen .mode) b) (turned pen [] ts) (command (commandOf b) k (settled pen) ts) (omega arith) (omega arith)
-turn-weighs (Number x) k pen ts = bare-weighs (pen .mode) k pen (Number x) ts
-turn-weighs (Refused p) k pen ts = bare-weighs (pen .mode) k pen (Refused p) ts
-turn-weighs Other k pen ts = bare-weighs (pen .mode) k pen Other ts
+    ⊎-elim
+    (λ z. let c = command-weighs (commandOf b) k (settled pen) ts in rw z (record { suits = c .suits; bound = omega (arith, c .bound) }))
+    (λ z. rw (z .0, z .1) (record { suits = inr (refl, refl); bound = omega arith }))
+    (rate-command b)
 
-walk-weighs : (k : Float) (n : ℕ) (pen : Pen) (ts : List Token) → 2 * length (walk k n pen ts) ≤ weight ts + owed (pen .mode)
+-- ---- a turn, and all of them
+
+rate-least : (b : ℕ) → 1 ≤ rateOf b
+rate-least b = ⊎-elim (λ z. omega arith) (λ z. omega (arith, z .0)) (rate-command b)
+
+-- with some rate for what is left
+pub record Weighed (o w : ℕ) (u : Turn) : Type 0 where
+  pub rate : ℕ
+  pub least : 1 ≤ rate
+  pub weighs : Weighs rate o w u
+
+continued : (b : ℕ) (m : Mode) → continues m b ≡ true → rateOf b ≡ 3
+continued b Idle e = absurd (true≢false (sym e))
+continued b Lines e = absurd (true≢false (sym e))
+continued b Cubics e = absurd (true≢false (sym e))
+continued b (Spline c) e = rw (eqb-true b 112 e)
+
+turn-weighs : (r : ℕ) (t : Token) (k : Float) (pen : Pen) (ts : List Token) → 1 ≤ r → Suits r pen → Weighed (owed (pen .mode)) (weight r (t ∷ ts)) (turnOf t k pen (t ∷ ts) ts)
+unfolding letterTurn weight
+turn-weighs r (Letter b) k pen ts a f = record { rate = rateOf b; least = rate-least b; weighs = go (continues (pen .mode) b) refl }
+  where
+    go : (t : Bool) → continues (pen .mode) b ≡ t → Weighs (rateOf b) (owed (pen .mode)) (weight (rateOf b) ts + 6) (pick t (turned pen [] ts) (command (commandOf b) k (settled pen) ts))
+    go true e = record { suits = inl (continued b (pen .mode) e); bound = omega arith }
+    go false e = letter-weighs b k pen ts
+turn-weighs r (Number x) k pen ts a f = record { rate = r; least = a; weighs = bare-weighs (pen .mode) r k pen (Number x ∷ ts) ts refl a f (omega arith) }
+turn-weighs r (Refused p) k pen ts a f = record { rate = r; least = a; weighs = bare-weighs (pen .mode) r k pen (Refused p ∷ ts) ts refl a f (omega arith) }
+turn-weighs r Other k pen ts a f = record { rate = r; least = a; weighs = bare-weighs (pen .mode) r k pen (Other ∷ ts) ts refl a f (omega arith) }
+
+walk-weighs : (k : Float) (n r : ℕ) (pen : Pen) (ts : List Token) → 1 ≤ r → Suits r pen → 6 * length (walk k n pen ts) ≤ weight r ts + owed (pen .mode)
 unfolding walk
-walk-weighs k zero pen ts = omega arith
-walk-weighs k (suc n) pen [] = omega arith
-walk-weighs k (suc n) pen (t ∷ ts) =
+walk-weighs k zero r pen ts a f = omega arith
+walk-weighs k (suc n) r pen [] a f = omega arith
+walk-weighs k (suc n) r pen (t ∷ ts) a f =
     let u = turnOf t k pen (t ∷ ts) ts in
-    let c = turn-weighs t k pen ts in
-    let i = walk-weighs k n (u .pen) (u .rest) in
-    simp length-append (omega arith)
+    let c = turn-weighs r t k pen ts a f in
+    let i = walk-weighs k n (c .rate) (u .pen) (u .rest) (c .least) (c .weighs .suits) in
+    simp length-append (omega (arith, c .weighs .bound))
 
-pub few-by-weight : (k : Float) (ts : List Token) → 2 * length (draw k ts) ≤ weight ts
-few-by-weight k ts = omega (arith, walk-weighs k (length ts) start ts)
+pub few-by-weight : (k : Float) (ts : List Token) → 6 * length (draw k ts) ≤ weight 3 ts
+few-by-weight k ts = omega (arith, walk-weighs k (length ts) 3 start ts (omega arith) (inl refl))

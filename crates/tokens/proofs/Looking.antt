@@ -22,7 +22,7 @@ use Rattle.refusal.specs.declared.Checked.the-variants.{Good}
 use Rattle.tokens.specs.declared.Token.{Token}
 use Rattle.tokens.specs.declared.Token.the-variants.{Letter, Number, Refused, Other}
 use Rattle.tokens.specs.Tokens.{lower, spells, inf, infinity, nan, special, oneLetter, numeralToken, tokenOf, wordEnd, tokenEnd, tokens, from, tokensGround}
-use Rattle.tokens.specs.Inner.{weight, Light}
+use Rattle.tokens.specs.Inner.{rateOf, weight, Light}
 use Rattle.tokens.proofs.Words.{from-end, from-more}
 
 -- ---- inf, infinity, nan begin with a letter
@@ -83,17 +83,17 @@ token-ends s i h = ⊎-elim (λ (z : tokenEnd s i ≡ i + (length s - i)). inl (
 
 -- ---- one token more
 
-other-weight : (ts : List Token) → weight (Other ∷ ts) ≡ weight ts + 1
+other-weight : (r : ℕ) (ts : List Token) → weight r (Other ∷ ts) ≡ weight r ts + r
 unfolding weight
-other-weight ts = refl
+other-weight r ts = refl
 
-refused-weight : (p : ℕ) (ts : List Token) → weight (Refused p ∷ ts) ≡ weight ts + 1
+refused-weight : (p r : ℕ) (ts : List Token) → weight r (Refused p ∷ ts) ≡ weight r ts + r
 unfolding weight
-refused-weight p ts = refl
+refused-weight p r ts = refl
 
-number-weight : (x : Float) (ts : List Token) → weight (Number x ∷ ts) ≡ weight ts + 1
+number-weight : (x : Float) (r : ℕ) (ts : List Token) → weight r (Number x ∷ ts) ≡ weight r ts + r
 unfolding weight
-number-weight x ts = refl
+number-weight x r ts = refl
 
 other-good : (ts : List Token) → tokensGround (Other ∷ ts) ≡ tokensGround ts
 unfolding tokensGround
@@ -103,33 +103,33 @@ number-good : (x : Float) (ts : List Token) → tokensGround (Number x ∷ ts) �
 unfolding tokensGround
 number-good x ts = refl
 
-module _ (s : List ℕ) (i a w most : ℕ) (e : a ≡ trimStart s i (length s)) where
-  pub light-end : length s ≤ a → w ≤ most → Light s i w most
+module _ (s : List ℕ) (i a r w most : ℕ) (e : a ≡ trimStart s i (length s)) where
+  pub light-end : length s ≤ a → w ≤ most → Light s i r w most
   unfolding weight tokensGround
   light-end h l = let z = from-end s i a e h in record { few = rw z (omega arith); good = λ p. rw z }
 
   module _ (b v : ℕ) (h : a < length s) (q : b ≡ tokenEnd s (a + 1)) (high : b ≤ length s) where
-    pub light-letter : oneLetter s a b ≡ true → v ≡ w + 2 → Light s b v most → Light s i w most
+    pub light-letter : oneLetter s a b ≡ true → (n : ℕ) → n ≡ rateOf (getD s a 0) → v ≡ w + 6 → Light s b n v most → Light s i r w most
     unfolding weight tokensGround tokenOf
-    light-letter o k l =
+    light-letter o n g k l =
         let f : from s i ≡ Letter (getD s a 0) ∷ from s b = from-more s i a b e h q ∙ rw o in
-        record { few = rw f (omega (arith, l .few)); good = λ p. rw f (l .good p) }
+        record { few = rw (f, ← g) (omega (arith, l .few)); good = λ p. rw f (l .good p) }
 
-    pub light-other : oneLetter s a b ≡ false → (special s a b ≡ true → ⊥) → v ≡ w + 1 → Light s b v most → Light s i w most
+    pub light-other : oneLetter s a b ≡ false → (special s a b ≡ true → ⊥) → v ≡ w + r → Light s b r v most → Light s i r w most
     unfolding tokenOf
     light-other o n k l = go (special s a b) refl (f32At s a b) refl
       where
         is : {t : Token} → tokenOf s a b ≡ t → from s i ≡ t ∷ from s b
         is {t} z = from-more s i a b e h q ∙ ap (λ (u : Token). u ∷ from s b) z
 
-        step : (t : Token) → from s i ≡ t ∷ from s b → weight (t ∷ from s b) ≡ weight (from s b) + 1 → ((Unplain s (length s) 0 (length s) → ⊥) → tokensGround (t ∷ from s b) ≡ tokensGround (from s b)) → Light s i w most
+        step : (t : Token) → from s i ≡ t ∷ from s b → weight r (t ∷ from s b) ≡ weight r (from s b) + r → ((Unplain s (length s) 0 (length s) → ⊥) → tokensGround (t ∷ from s b) ≡ tokensGround (from s b)) → Light s i r w most
         step t f x y = record { few = rw (f, x) (omega (arith, l .few)); good = λ p. rw f (y p ∙ l .good p) }
 
         late : (p : ℕ) → f32At s a b ≡ F32.tooLong p → Unplain s (length s) 0 (length s)
         late p z = unplain-wider (omega arith) high (late-unplain s (length s) a b p high (rw q (token-ends s (a + 1) (omega arith))) z)
 
-        go : (t : Bool) → special s a b ≡ t → (x : F32) → f32At s a b ≡ x → Light s i w most
+        go : (t : Bool) → special s a b ≡ t → (x : F32) → f32At s a b ≡ x → Light s i r w most
         go true z x y = absurd (n z)
-        go false z F32.none y = step Other (is (rw (o, z, y))) (other-weight (from s b)) (λ p. other-good (from s b))
-        go false z (F32.tooLong k) y = step (Refused k) (is (rw (o, z, y))) (refused-weight k (from s b)) (λ p. absurd (p (late k y)))
-        go false z (F32.number x) y = step (Number x) (is (rw (o, z, y))) (number-weight x (from s b)) (λ p. number-good x (from s b))
+        go false z F32.none y = step Other (is (rw (o, z, y))) (other-weight r (from s b)) (λ p. other-good (from s b))
+        go false z (F32.tooLong k) y = step (Refused k) (is (rw (o, z, y))) (refused-weight k r (from s b)) (λ p. absurd (p (late k y)))
+        go false z (F32.number x) y = step (Number x) (is (rw (o, z, y))) (number-weight x r (from s b)) (λ p. number-good x (from s b))

@@ -2,14 +2,16 @@
 use mathlib.Core.Path.{_≡_}
 use mathlib.Core.List.{List, [], _∷_}
 use Prim.Native.Nat.{ℕ, _+_, _*_, _≤_, _<_}
+use lib.Dec.{eqb}
 use lib.ListN.{length}
+use Rattle.scan.specs.Scan.{pick}
 use Rattle.refusal.specs.declared.Checked.the-variants.{Good}
 use Rattle.survey.specs.Survey.{Unplain}
 use Rattle.tokens.specs.declared.Token.{Token}
 use Rattle.tokens.specs.declared.Token.the-variants.{Letter, Number, Refused, Other}
 use Rattle.tokens.specs.declared.Next.{Next}
 use Rattle.tokens.specs.declared.Next.the-variants.{End, Is}
-use Rattle.tokens.specs.Tokens.{from, untilLetter, tokensGround}
+use Rattle.tokens.specs.Tokens.{lower, from, untilLetter, tokensGround}
 
 -- a token and the place behind it as the tokens from i on
 abbrev pub listed : List ℕ → Next → List Token
@@ -39,19 +41,23 @@ pub record Skips (s : List ℕ) (i r : ℕ) : Type 0 where
 
 -- ---- a first look at a drawing
 
--- what tokens weigh: a letter two, any other one
-unfoldable pub weight : List Token → ℕ
-weight [] = 0
-weight (Letter b ∷ ts) = weight ts + 2
-weight (Number x ∷ ts) = weight ts + 1
-weight (Refused p ∷ ts) = weight ts + 1
-weight (Other ∷ ts) = weight ts + 1
+-- what a token that is no letter weighs, in sixths of a command: behind b, whose cubics take six numbers, one; else three
+abbrev pub rateOf : ℕ → ℕ
+rateOf b = pick (eqb (lower b) 98) 1 3
+
+-- what tokens weigh, in sixths of a command: a letter six, any other as its rate says
+unfoldable pub weight : ℕ → List Token → ℕ
+weight r [] = 0
+weight r (Letter b ∷ ts) = weight (rateOf b) ts + 6
+weight r (Number x ∷ ts) = weight r ts + r
+weight r (Refused p ∷ ts) = weight r ts + r
+weight r (Other ∷ ts) = weight r ts + r
 
 -- the tokens from i on weigh, with w, at most so much, and if the text is plain none is refused
-pub record Light (s : List ℕ) (i w most : ℕ) : Type 0 where
-  pub few : w + weight (from s i) ≤ most
+pub record Light (s : List ℕ) (i r w most : ℕ) : Type 0 where
+  pub few : w + weight r (from s i) ≤ most
   pub good : (Unplain s (length s) 0 (length s) → ⊥) → tokensGround (from s i) ≡ Good
 
 pub record Straight (s : List ℕ) (places : ℕ) : Type 0 where
-  pub few : weight (from s 0) ≤ 2 * places
+  pub few : weight 3 (from s 0) ≤ 6 * places
   pub good : tokensGround (from s 0) ≡ Good

@@ -4,7 +4,7 @@ ghost use mathlib.Core.Bool.{true};
 ghost use Prim.Native.Nat.{_≤_, _<_};
 ghost use lib.ListN.{length};
 ghost use Rattle.tokens.specs.Tokens.{lower as lowerOf, spells as spellsAt, special as specialAt, oneLetter, tokenOf, tokenEnd, isLetter, from as tokensFrom, tail, tokensGround};
-ghost use Rattle.tokens.specs.Inner.{Follows, Skips, Light, Straight};
+ghost use Rattle.tokens.specs.Inner.{Follows, Skips, rateOf, Light, Straight};
 use refusal::Checked;
 use refusal::Refusal;
 
@@ -209,12 +209,20 @@ fn wordy(text: &[u8], a: usize, b: usize) -> bool
     i < scan::past(text, scan::Class::Letter, i, b)
 }
 
-// Whether the tokens weigh at most so much, letters twice, and none is a word: such a text has no more than half as many commands.
+// What a token behind a letter weighs, in sixths of a command.
+fn rate_of(b: u8) -> usize
+    ensures { λ r. ⌜ (r ≡ rateOf b) × (r ≤ 3) ⌝ }
+{
+    if lower(b) == 98 { 1 } else { 3 }
+}
+
+// Whether the tokens weigh at most so much, in sixths of a command, and none is a word.
 fn light(text: &[u8], most: usize) -> bool
     requires { ⌜ (length (now text) ≤ 12288) × (most ≤ 65536) ⌝ }
-    ensures { λ r. ⌜ (r ≡ true → Light (now (text .entry)) 0 0 most) ⌝ }
+    ensures { λ r. ⌜ (r ≡ true → Light (now (text .entry)) 0 3 0 most) ⌝ }
 {
     let mut i = 0;
+    let mut rate = 3;
     let mut w = 0;
     loop {
         let a = scan::trim_start(text, i, text.len());
@@ -223,12 +231,13 @@ fn light(text: &[u8], most: usize) -> bool
         }
         let b = token_end(text, a + 1);
         if one_letter(text, a, b) {
-            w += 2;
+            rate = rate_of(text[a]);
+            w += 6;
         } else {
             if wordy(text, a, b) {
                 return false;
             }
-            w += 1;
+            w += rate;
         }
         if w > most {
             return false;
@@ -242,7 +251,7 @@ pub fn straight(text: &[u8], places: usize) -> bool
     requires { ⌜ (length (now text) ≤ 12288) × (places ≤ 1024) ⌝ }
     ensures { λ r. ⌜ (r ≡ true → Straight (now (text .entry)) places) ⌝ }
 {
-    if light(text, 2 * places) {
+    if light(text, 6 * places) {
         return survey::plain(text, 0, text.len());
     }
     false

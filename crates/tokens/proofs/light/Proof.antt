@@ -12,23 +12,24 @@ use Rattle.tokens.proofs.light.Reads as reads
 use Rattle.tokens.proofs.light.Lts as lts
 use Rattle.scan.proofs.trim_start.Reads as trim-start-reads
 use Rattle.tokens.proofs.one_letter.Reads as one-letter-reads
+use Rattle.tokens.proofs.rate_of.Reads as rate-of-reads
 use Rattle.tokens.proofs.token_end.Reads as token-end-reads
 use Rattle.tokens.proofs.wordy.Reads as wordy-reads
 
 abbrev Inv-loop : tie.InvT-loop
-Inv-loop text most i₀ w₀ i w = (i ≤ length text) × (w ≤ most) × (Light text i w most → Light text 0 0 most)
+Inv-loop text most i₀ rate₀ w₀ i rate w = (i ≤ length text) × (rate ≤ 3) × (w ≤ most) × (Light text i rate w most → Light text 0 3 0 most)
 
 abbrev μ-loop : tie.MeasureT-loop
-μ-loop text most i₀ w₀ i w = length text - i
+μ-loop text most i₀ rate₀ w₀ i rate w = length text - i
 
 loop-holds : tie.Need-loop-holds Inv-loop μ-loop
-loop-holds c = (search needs, search needs, λ l. l)
+loop-holds c = (search needs, search needs, search needs, λ l. l)
 
 trim-start-requires : tie.Need-trim-start-requires Inv-loop μ-loop
 trim-start-requires c κs = search needs
 
 returns : tie.Need-returns Inv-loop μ-loop
-returns c h = c .before .before .loop .inv .2 (light-end _ _ _ _ _ (c .before .trim-start .ensures .is) (c .if1 .taken) (c .before .before .loop .inv .1))
+returns c h = c .before .before .loop .inv .3 (light-end _ _ _ _ _ _ (c .before .trim-start .ensures .is) (c .if1 .taken) (c .before .before .loop .inv .2))
 
 add-token-end : tie.Need-add-token-end Inv-loop μ-loop
 add-token-end c = search needs
@@ -38,6 +39,12 @@ token-end-requires c κs = search needs
 
 one-letter-requires : tie.Need-one-letter-requires Inv-loop μ-loop
 one-letter-requires c κs = search needs
+
+shared-slice-read-rate-of : tie.Need-shared-slice-read-rate-of Inv-loop μ-loop
+shared-slice-read-rate-of c = search needs
+
+rate-of-requires : tie.Need-rate-of-requires Inv-loop μ-loop
+rate-of-requires c κs = search needs
 
 add-w : tie.Need-add-w Inv-loop μ-loop
 add-w c = search needs
@@ -65,10 +72,11 @@ loop-again c =
     let e = c .before .before .before .token-end .ensures in
     let o = c .before .before .one-letter .ensures in (
       search needs,
+      ⊎-elim (λ w. rw (w .3) (w .2 .ensures .1)) (λ w. rw (w .3) (l .inv .1)) (c .before .if2 .came),
       search needs,
       ⊎-elim
-          (λ w k. l .inv .2 (light-letter _ _ _ _ _ t _ _ a (e .0) (e .2) (sym o ∙ w .0 .taken) (w .1) k))
-          (λ w k. l .inv .2 (light-other _ _ _ _ _ t _ _ a (e .0) (e .2) (sym o ∙ w .0 .left) (λ z. true≢false (sym (w .1 .ensures z) ∙ w .2 .left)) (w .3) k))
+          (λ w k. l .inv .3 (light-letter _ _ _ _ _ _ t _ _ a (e .0) (e .2) (sym o ∙ w .0 .taken) _ (w .3 ∙ w .2 .ensures .0) (w .4) k))
+          (λ w k. l .inv .3 (light-other _ _ _ _ _ _ t _ _ a (e .0) (e .2) (sym o ∙ w .0 .left) (λ z. true≢false (sym (w .1 .ensures z) ∙ w .2 .left)) (w .4) (rw (w .3) at k)))
           (c .before .if2 .came),
     )
 
@@ -84,6 +92,8 @@ light-spec =
     add-token-end
     token-end-requires
     one-letter-requires
+    shared-slice-read-rate-of
+    rate-of-requires
     add-w
     wordy-requires
     returns-2
