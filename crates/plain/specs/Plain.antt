@@ -17,7 +17,7 @@ use Rattle.colour.specs.declared.Colour.{Colour}
 use Rattle.colour.specs.declared.Colour.the-variants.{Rgb}
 use Rattle.tag.specs.Tag as Tag
 use Rattle.tag.specs.Tag.{AnimatedTag, absent, times, KaraokeKind, Fad, Fade, Move, Be, Pbo, B, R, Fn, Karaoke, plain, named}
-use Rattle.plain.specs.Names.{Shape, float, pair, ranged, flag, alpha, colour, clip, beat, fad, fade, move, edge, baseline, weight, reset, unknown, names, lookup, key, keyAt}
+use Rattle.plain.specs.Names.{Shape, float, pair, ranged, flag, alpha, colour, clip, beat, fad, fade, move, edge, baseline, weight, reset, unknown, names, lookup, keyOf, key, lowered, keyAt}
 
 -- what a tag gives: nothing, a numeral that is too long with its place, a tag, or a \fade whose times lie too far off
 pub data One : Type 0 where
@@ -210,11 +210,11 @@ shaped unknown s p q = no
 
 -- \fn: a name that begins with fn and goes on
 unfoldable pub isFn : List ℕ → ℕ → ℕ → Bool
-isFn s i m = pick (leb 3 (m - i)) (eqb (key s 2 i 0) 0x666E) false
+isFn s i m = pick (leb 3 (m - i)) (eqb (keyOf (lowered s 2 i)) (key "fn")) false
 
 -- \r: a name that begins with r and goes on, with an empty parameter
 unfoldable pub isNamedReset : List ℕ → ℕ → ℕ → ℕ → ℕ → Bool
-isNamedReset s i m p q = pick (leb 2 (m - i)) (pick (eqb (key s 1 i 0) 0x72) (leb q p) false) false
+isNamedReset s i m p q = pick (leb 2 (m - i)) (pick (eqb (keyOf (lowered s 1 i)) (key "r")) (leb q p) false) false
 
 -- one tag, \t apart
 unfoldable pub plainAt : List ℕ → ℕ → ℕ → ℕ → ℕ → One

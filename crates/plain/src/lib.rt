@@ -3,7 +3,7 @@ ghost use mathlib.Core.Path.{_≡_};
 ghost use Prim.Native.Nat.{_+_, _-_, _^_, _≤_, _<_};
 ghost use lib.ListN.{length};
 ghost use Rattle.tag.specs.Table.{rec};
-ghost use Rattle.plain.specs.Names.{key as keyOf, keyAt, lookup, names};
+ghost use Rattle.plain.specs.Names.{keyOf, lowered, keyAt, lookup, names};
 ghost use Rattle.plain.specs.Plain.{isFn, isNamedReset, part, plainAt};
 ghost use Rattle.plain.specs.Coded.{codeOf, keepWord, beatWord, baselineWord, edgeWord, cutWord, longOr, pairTag, moveTag, notBelowZeroWord, byteWord, farWord, fadTag, fadeTag, rangedTag, weightTag, flagTag, alphaTag, colourTag, clipTag, resetTag, fnTag, partOf, shapedTag, keptOf};
 
@@ -115,7 +115,7 @@ fn lower(b: u8) -> u64
 // The bytes between two places in lower case, as digits to the base 256.
 fn key_of(text: &[u8], from: usize, to: usize) -> u64
     requires { ⌜ (from ≤ to) × (to ≤ from + 5) × (to ≤ length (now text)) ⌝ }
-    ensures { λ r. ⌜ r ≡ keyOf (now (text .entry)) (to - from) from 0 ⌝ }
+    ensures { λ r. ⌜ r ≡ keyOf (lowered (now (text .entry)) (to - from) from) ⌝ }
 {
     let mut i = from;
     let mut a: u64 = 0;

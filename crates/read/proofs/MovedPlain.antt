@@ -20,7 +20,7 @@ use Rattle.colour.specs.declared.Colour as C
 use Rattle.colour.specs.declared.Colour.the-variants.{Rgb}
 use Rattle.tag.specs.Tag as Tag
 use Rattle.tag.specs.Tag.{AnimatedTag, Be, Pbo, R}
-use Rattle.plain.specs.Names.{Shape, float, pair, ranged, flag, alpha, colour, clip, beat, fad, fade, move, edge, baseline, weight, reset, unknown, names, lookup, lower, key, keyAt}
+use Rattle.plain.specs.Names.{Shape, float, pair, ranged, flag, alpha, colour, clip, beat, fad, fade, move, edge, baseline, weight, reset, unknown, names, lookup, lowered, keyAt}
 use Rattle.plain.specs.Plain.{One, no, long, kept, far, part, mapF32, f32s, i32s, allFloats, floatsIn, floats, ints, nth, firstLong, pairOf, moveOf, fadOf, fadeOf, isFar, rangedOf, weightOf, flagOf, mapAlpha, mapColour, clipOf, resetOf, beatOf, shaped, isFn, isNamedReset, plainAt, nthInt}
 use Rattle.plain.proofs.Every.{Every, gather, find}
 use Rattle.read.specs.Moved.{movedPart, movedReset, movedTag}
@@ -216,26 +216,26 @@ module _ {w s : List ℕ} {k n : ℕ} (v : Window w s k n) where
 
   -- ---- a name, from i to m
 
-  key-on : (m : ℕ) {i′ i : ℕ} (a : ℕ) → On k n i′ i → i + m ≤ n → key w m i′ a ≡ key s m i a
-  unfolding key
-  key-on zero a h l = refl
-  key-on (suc m) {i′} {i} a h l = rw (byte v h (omega arith)) (key-on m (a * 256 + lower (getD s i 0)) (next h (omega arith)) (omega arith))
+  lowered-on : (m : ℕ) {i′ i : ℕ} → On k n i′ i → i + m ≤ n → lowered w m i′ ≡ lowered s m i
+  unfolding lowered
+  lowered-on zero h l = refl
+  lowered-on (suc m) {i′} {i} h l = rw (byte v h (omega arith), lowered-on m (next h (omega arith)) (omega arith))
 
   module _ {i′ i m′ m : ℕ} (h : On k n i′ i) (g : On k n m′ m) where
     pub key-at-on : keyAt w i′ m′ ≡ keyAt s i m
     unfolding keyAt
     key-at-on =
-        rw (gap h g, key-on (m - i) 0 h (omega arith))
-        (either _≡_ (leb (m - i) 5) (if-eq _≡_ (m - i) 1 (λ l. rw (byte v h (omega arith), key-on 1 0 h (omega arith))) refl) refl)
+        rw (gap h g, lowered-on (m - i) h (omega arith))
+        (either _≡_ (leb (m - i) 5) (if-eq _≡_ (m - i) 1 (λ l. rw (byte v h (omega arith))) refl) refl)
 
     is-fn-on : isFn w i′ m′ ≡ isFn s i m
     unfolding isFn
-    is-fn-on = rw (gap h g) (if-le _≡_ 3 (m - i) (λ l. rw (key-on 2 0 h (omega arith))) refl)
+    is-fn-on = rw (gap h g) (if-le _≡_ 3 (m - i) (λ l. rw (lowered-on 2 h (omega arith))) refl)
 
     module _ {p′ p q′ q : ℕ} (c : On k n p′ p) (d : On k n q′ q) where
       is-named-reset-on : isNamedReset w i′ m′ p′ q′ ≡ isNamedReset s i m p q
       unfolding isNamedReset
-      is-named-reset-on = rw (gap h g, leb-on d c) (if-le _≡_ 2 (m - i) (λ l. rw (key-on 1 0 h (omega arith))) refl)
+      is-named-reset-on = rw (gap h g, leb-on d c) (if-le _≡_ 2 (m - i) (λ l. rw (lowered-on 1 h (omega arith))) refl)
 
       -- one tag, \t apart
       pub plain-on : plainAt w i′ m′ p′ q′ ≡ movedOne k (plainAt s i m p q)

@@ -1,12 +1,20 @@
 -- Scanning a text by positions. A definition goes over n places from i on; `..To` is the same between two places.
 use mathlib.Core.Path.{_≡_}
-use mathlib.Core.List.{List}
+use mathlib.Core.List.{List, [], _∷_}
 use mathlib.Core.Bool.{Bool, true, false, not}
 use Prim.Native.Nat.{ℕ, zero, suc, _+_, _-_, _≤_}
+use Prim.Native.Char.{code}
+use Prim.Native.String.{String}
+use Prim.Native.String as String
 use lib.ListN.{getD}
 use lib.Dec.{ltb, leb, eqb}
 use Rattle.scan.specs.declared.Class.{Class}
 use Rattle.scan.specs.declared.Class.the-variants.{Digit, Letter, Is, Not, Either, Neither, Below}
+
+-- the bytes of an ASCII text written out
+abbrev pub bytes : String → List ℕ
+bytes String.[] = []
+bytes (String._∷_ c t) = code c ∷ bytes t
 
 -- a where b is true, else d. A recursive call goes in by a `let`, which waits.
 abbrev pub pick : {A : Type 0} → Bool → A → A → A

@@ -4,13 +4,13 @@ use native.Mathlib.Nat.{sub-self}
 use native.Mathlib.Omega.{arith}
 use borrow.Author.Needs.{needs}
 use lib.Dec.{lit<}
-use Rattle.plain.specs.Names.{key}
+use Rattle.plain.specs.Names.{keyWith, lowered}
 use Rattle.plain.proofs.Keys.{key-end, key-go, lower-small, room, five}
 use Rattle.plain.proofs.key_of.Statement.{statement}
 use Rattle.plain.proofs.key_of.Tie as tie
 
 abbrev Inv-loop : tie.InvT-loop
-Inv-loop text from to i₀ a₀ i a = (from ≤ i) × (i ≤ to) × (a < 256 ^ (i - from)) × (key text (to - from) from 0 ≡ key text (to - i) i a)
+Inv-loop text from to i₀ a₀ i a = (from ≤ i) × (i ≤ to) × (a < 256 ^ (i - from)) × (keyWith 0 (lowered text (to - from) from) ≡ keyWith a (lowered text (to - i) i))
 
 abbrev μ-loop : tie.MeasureT-loop
 μ-loop text from to i₀ a₀ i a = to - i
