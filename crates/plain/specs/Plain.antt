@@ -11,7 +11,7 @@ use Rattle.float.specs.Float.{zero as plusZero, maxZero, roundAway, roundByte, 
 use Rattle.numeral.specs.Numeral.{F32, number, tooLong, f32At, I32, whole, i32At}
 use Rattle.numeral.specs.declared.Numeral.{Numeral}
 use Rattle.numeral.specs.declared.Numeral.the-variants.{No, TooLong, Word}
-use Rattle.lists.specs.Lists.{Part, parts}
+use Rattle.lists.specs.Lists.{Stretch, parts}
 use Rattle.colour.specs.Colour.{alphaAt, colourAt}
 use Rattle.colour.specs.declared.Colour.{Colour}
 use Rattle.colour.specs.declared.Colour.the-variants.{Rgb}
@@ -37,11 +37,11 @@ mapF32 f (tooLong p) = long p
 mapF32 f (number x) = kept (f x)
 
 -- the f32 and the i32 of each part of a comma list
-unfoldable pub f32s : List ℕ → List Part → List F32
+unfoldable pub f32s : List ℕ → List Stretch → List F32
 f32s s [] = []
 f32s s (x ∷ l) = f32At s (x .from) (x .to) ∷ f32s s l
 
-unfoldable pub i32s : List ℕ → List Part → List I32
+unfoldable pub i32s : List ℕ → List Stretch → List I32
 i32s s [] = []
 i32s s (x ∷ l) = i32At s (x .from) (x .to) ∷ i32s s l
 
@@ -51,10 +51,11 @@ isNumber F32.none = false
 isNumber (tooLong p) = false
 isNumber (number x) = true
 
-abbrev pub floatOf : F32 → Float
-floatOf F32.none = plusZero
-floatOf (tooLong p) = plusZero
-floatOf (number x) = x
+-- a part's number, 0 where it has none
+abbrev pub orZero : F32 → Float
+orZero F32.none = plusZero
+orZero (tooLong p) = plusZero
+orZero (number x) = x
 
 unfoldable pub allFloats : List F32 → Bool
 allFloats [] = true
@@ -62,7 +63,7 @@ allFloats (x ∷ l) = let r = allFloats l in pick (isNumber x) r false
 
 unfoldable pub floatsIn : List F32 → List Float
 floatsIn [] = []
-floatsIn (x ∷ l) = floatOf x ∷ floatsIn l
+floatsIn (x ∷ l) = orZero x ∷ floatsIn l
 
 abbrev pub floats : List F32 → List Float
 floats l = pick (allFloats l) (floatsIn l) []
@@ -95,11 +96,11 @@ abbrev pub nthInt : List ℤ → ℕ → ℤ
 nthInt l n = getD l n (pos 0)
 
 -- 01, ground 3: the first numeral of a list that is too long comes before what the list makes
-unfoldable pub firstLong : List F32 → One → One
-firstLong [] o = o
-firstLong (F32.none ∷ l) o = firstLong l o
-firstLong (tooLong p ∷ l) o = long p
-firstLong (number x ∷ l) o = firstLong l o
+unfoldable pub unlessLong : List F32 → One → One
+unlessLong [] o = o
+unlessLong (F32.none ∷ l) o = unlessLong l o
+unlessLong (tooLong p ∷ l) o = long p
+unlessLong (number x ∷ l) o = unlessLong l o
 
 -- \pos, \org: two
 unfoldable pub pairOf : (Float → Float → AnimatedTag) → List Float → One
@@ -175,7 +176,7 @@ unfoldable pub clipOf : (Float → Float → Float → Float → AnimatedTag) �
 clipOf f g l p q =
     let x = floats l in
     pick (eqb (length l) 4)
-    (firstLong l (pick (allFloats l) (kept (f (nth x 0) (nth x 1) (nth x 2) (nth x 3))) (kept (g (part p q)))))
+    (unlessLong l (pick (allFloats l) (kept (f (nth x 0) (nth x 1) (nth x 2) (nth x 3))) (kept (g (part p q)))))
     (kept (g (part p q)))
 
 -- \r: the trimmed parameter names a style, if there is any
@@ -192,7 +193,7 @@ beatOf k x = Karaoke k (toWord (roundAway (maxZero x)))
 -- the parameter from p to q by its shape
 unfoldable pub shaped : Shape → List ℕ → ℕ → ℕ → One
 shaped (float f) s p q = mapF32 f (f32At s p q)
-shaped (pair f) s p q = let l = f32s s (parts s p q) in firstLong l (pairOf f (floats l))
+shaped (pair f) s p q = let l = f32s s (parts s p q) in unlessLong l (pairOf f (floats l))
 shaped (ranged a b f) s p q = rangedOf a b f (i32At s p q)
 shaped (flag f) s p q = flagOf f s p q
 shaped (alpha f) s p q = mapAlpha f (alphaAt s p q)
@@ -201,7 +202,7 @@ shaped (clip f g) s p q = clipOf f g (f32s s (parts s p q)) p q
 shaped (beat k) s p q = mapF32 (beatOf k) (f32At s p q)
 shaped fad s p q = fadOf (ints (i32s s (parts s p q)))
 shaped fade s p q = fadeOf (ints (i32s s (parts s p q)))
-shaped move s p q = let l = f32s s (parts s p q) in firstLong l (moveOf (floats l))
+shaped move s p q = let l = f32s s (parts s p q) in unlessLong l (moveOf (floats l))
 shaped edge s p q = mapF32 (λ x. Be (roundByte x)) (f32At s p q)
 shaped baseline s p q = mapF32 (λ x. Pbo (roundAway x)) (f32At s p q)
 shaped weight s p q = weightOf (i32At s p q)

@@ -14,7 +14,7 @@ use Rattle.lists.specs.Lists.{split}
 use Rattle.colour.specs.Colour.{trimmed, ampersands, zeroXAt, digits, alphaAt, colourAt}
 use Rattle.tag.specs.Tag.{Part, Fad, Fade, Pos, Move, absent, times, Fs, Color1, ClipRect, ClipDrawing, Be, Alpha, An, Fn, R, plain, named, B, I, Karaoke, Sweep, Pbo}
 use Rattle.plain.specs.Names.{names, lookup, lowered, keyAt}
-use Rattle.plain.specs.Plain.{One, no, long, kept, far, part, f32s, i32s, allFloats, floatsIn, allInts, intsIn, firstLong, pairOf, moveOf, fadOf, fadeOf, rangedOf, weightOf, flagOf, clipOf, resetOf, shaped, isFn, isNamedReset, plainAt}
+use Rattle.plain.specs.Plain.{One, no, long, kept, far, part, f32s, i32s, allFloats, floatsIn, allInts, intsIn, unlessLong, pairOf, moveOf, fadOf, fadeOf, rangedOf, weightOf, flagOf, clipOf, resetOf, shaped, isFn, isNamedReset, plainAt}
 
 -- a name, its parameter, and what they give
 abbrev Row : Type 0
@@ -72,7 +72,7 @@ pub lists : Gives (
     ("fade", "256,-1,7,1000000000,-1000000000,0,0", kept (Fade 255 0 7 (pos 1000000000) (negℤ (pos 1000000000)) (pos 0) (pos 0))) ∷
     ("fade", "0,0,0,0,0,0,-1000000001", far (Fade 0 0 0 (pos 0) (pos 0) (pos 0) (negℤ (pos 1000000001)))) ∷
     [])
-unfolding span skip skipBack blankAt blankBefore value wholeNumber i32Of splitAt exponentAt floatOf f32Of round toSigned split f32s i32s allFloats floatsIn allInts intsIn firstLong pairOf moveOf fadOf fadeOf clipOf part names lookup lowered keyAt isFn isNamedReset shaped plainAt
+unfolding span skip skipBack blankAt blankBefore value wholeNumber i32Of splitAt exponentAt floatOf f32Of round toSigned split f32s i32s allFloats floatsIn allInts intsIn unlessLong pairOf moveOf fadOf fadeOf clipOf part names lookup lowered keyAt isFn isNamedReset shaped plainAt
 lists = refl
 
 pub words : Gives (

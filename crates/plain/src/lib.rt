@@ -5,7 +5,7 @@ ghost use lib.ListN.{length};
 ghost use Rattle.tag.specs.Table.{rec};
 ghost use Rattle.plain.specs.Names.{keyOf, lowered, keyAt, lookup, names};
 ghost use Rattle.plain.specs.Plain.{isFn, isNamedReset, part, plainAt};
-ghost use Rattle.plain.specs.Coded.{codeOf, keepWord, beatWord, baselineWord, edgeWord, cutWord, longOr, pairTag, moveTag, notBelowZeroWord, byteWord, farWord, fadTag, fadeTag, rangedTag, weightTag, flagTag, alphaTag, colourTag, clipTag, resetTag, fnTag, partOf, shapedTag, keptOf};
+ghost use Rattle.plain.specs.Inner.{codeOf, keepWord, beatWord, baselineWord, edgeWord, cutWord, longOr, pairTag, moveTag, notBelowZeroWord, byteWord, farWord, fadTag, fadeTag, rangedTag, weightTag, flagTag, alphaTag, colourTag, clipTag, resetTag, fnTag, partOf, shapedTag, keptOf};
 
 // What a tag's parameter is, with the kind of the record that it makes.
 pub enum Shape {
@@ -36,7 +36,7 @@ pub enum Kept {
 }
 
 // A part of the text as two words of a record.
-pub struct Part {
+pub struct PartWords {
     pub offset: u32,
     pub size: u32,
 }
@@ -300,7 +300,7 @@ fn fad_of(n: lists::Numbers) -> Kept
 }
 
 fn either(a: bool, b: bool) -> bool
-    ensures { λ r. ⌜ r ≡ Rattle.plain.specs.Coded.either a b ⌝ }
+    ensures { λ r. ⌜ r ≡ Rattle.plain.specs.Inner.either a b ⌝ }
 {
     if a { true } else { b }
 }
@@ -405,17 +405,17 @@ fn colour_of(kind: u32, c: colour::Colour) -> Kept
 }
 
 // The part between two places as words; an empty one is 0 and 0.
-fn part_of(p: usize, q: usize) -> Part
+fn part_of(p: usize, q: usize) -> PartWords
     requires { ⌜ q < 2 ^ 32 ⌝ }
     ensures { λ r. ⌜ r ≡ partOf (part p q) ⌝ }
 {
     if p < q {
-        return Part {
+        return PartWords {
             offset: p as u32,
             size: (q - p) as u32,
         };
     }
-    Part { offset: 0, size: 0 }
+    PartWords { offset: 0, size: 0 }
 }
 
 fn clip_of(kind: u32, drawn: u32, n: lists::Numbers, p: usize, q: usize) -> Kept

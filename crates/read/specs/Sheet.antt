@@ -13,7 +13,7 @@ use Rattle.tag.specs.declared.Record.{Record}
 use Rattle.tag.specs.Tag.{append}
 use Rattle.tag.specs.Table.{rec, records, encode}
 use Rattle.plain.specs.Names.{names, lookup, lowered, keyAt}
-use Rattle.plain.specs.Plain.{part, f32s, i32s, allFloats, floatsIn, allInts, intsIn, firstLong, pairOf, moveOf, fadOf, fadeOf, rangedOf, weightOf, flagOf, clipOf, resetOf, shaped, isFn, isNamedReset, plainAt}
+use Rattle.plain.specs.Plain.{part, f32s, i32s, allFloats, floatsIn, allInts, intsIn, unlessLong, pairOf, moveOf, fadOf, fadeOf, rangedOf, weightOf, flagOf, clipOf, resetOf, shaped, isFn, isNamedReset, plainAt}
 use Rattle.read.specs.declared.Reading.{Reading}
 use Rattle.read.specs.declared.Reading.the-variants.{Read, Refused}
 use Rattle.read.specs.Block.{paramAt, peel, tagAt, walk, parse}
@@ -56,7 +56,7 @@ pub tables : Gives recordsOf (
     ("\\fs(nan)", []) ∷
     ("\\\\\\i1", rec 43 1 0 0 0 0 0 0 ∷ []) ∷
     [])
-unfolding round toBits toSigned span back skip skipBack blankAt blankBefore closing maxZero roundAway roundByte value wholeNumber i32Of hexAt splitAt exponentAt floatOf f32Of trimmed ampersands zeroXAt digits alphaAt colourAt split append records names lookup lowered keyAt part f32s i32s allFloats floatsIn allInts intsIn firstLong pairOf moveOf fadOf fadeOf rangedOf weightOf flagOf clipOf resetOf shaped isFn isNamedReset plainAt paramAt peel tagAt walk parse
+unfolding round toBits toSigned span back skip skipBack blankAt blankBefore closing maxZero roundAway roundByte value wholeNumber i32Of hexAt splitAt exponentAt floatOf f32Of trimmed ampersands zeroXAt digits alphaAt colourAt split append records names lookup lowered keyAt part f32s i32s allFloats floatsIn allInts intsIn unlessLong pairOf moveOf fadOf fadeOf rangedOf weightOf flagOf clipOf resetOf shaped isFn isNamedReset plainAt paramAt peel tagAt walk parse
 tables = refl
 
 pub raw : Gives rawRecordsOf (
@@ -64,7 +64,7 @@ pub raw : Gives rawRecordsOf (
     ("{\\rAlt}", rec 41 1 3 3 0 0 0 0 ∷ []) ∷
     ("{{\\fnArial}}", rec 39 5 5 10 1 0 0 0 ∷ []) ∷
     [])
-unfolding round toBits toSigned span back skip skipBack blankAt blankBefore closing maxZero roundAway roundByte value wholeNumber i32Of hexAt splitAt exponentAt floatOf f32Of trimmed ampersands zeroXAt digits alphaAt colourAt split append records names lookup lowered keyAt part f32s i32s allFloats floatsIn allInts intsIn firstLong pairOf moveOf fadOf fadeOf rangedOf weightOf flagOf clipOf resetOf shaped isFn isNamedReset plainAt paramAt peel tagAt walk parse lessBraces
+unfolding round toBits toSigned span back skip skipBack blankAt blankBefore closing maxZero roundAway roundByte value wholeNumber i32Of hexAt splitAt exponentAt floatOf f32Of trimmed ampersands zeroXAt digits alphaAt colourAt split append records names lookup lowered keyAt part f32s i32s allFloats floatsIn allInts intsIn unlessLong pairOf moveOf fadOf fadeOf rangedOf weightOf flagOf clipOf resetOf shaped isFn isNamedReset plainAt paramAt peel tagAt walk parse lessBraces
 raw = refl
 
 pub answers : Gives answerOf (
@@ -82,5 +82,5 @@ pub answers : Gives answerOf (
     ("\\i1\\fade(0,0,0,0,0,0,1000000001)", Refused (FadeTooFar 3)) ∷
     ("\\fade(0,0,0,-1000000000,0,0,1000000000)", Read 1) ∷
     [])
-unfolding round toBits toSigned span back skip skipBack blankAt blankBefore closing maxZero roundAway roundByte value wholeNumber i32Of hexAt splitAt exponentAt floatOf f32Of trimmed ampersands zeroXAt digits alphaAt colourAt split append records names lookup lowered keyAt part f32s i32s allFloats floatsIn allInts intsIn firstLong pairOf moveOf fadOf fadeOf rangedOf weightOf flagOf clipOf resetOf shaped isFn isNamedReset plainAt paramAt peel tagAt walk parse textGround readGround answer
+unfolding round toBits toSigned span back skip skipBack blankAt blankBefore closing maxZero roundAway roundByte value wholeNumber i32Of hexAt splitAt exponentAt floatOf f32Of trimmed ampersands zeroXAt digits alphaAt colourAt split append records names lookup lowered keyAt part f32s i32s allFloats floatsIn allInts intsIn unlessLong pairOf moveOf fadOf fadeOf rangedOf weightOf flagOf clipOf resetOf shaped isFn isNamedReset plainAt paramAt peel tagAt walk parse textGround readGround answer
 answers = refl

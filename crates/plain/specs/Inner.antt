@@ -1,4 +1,5 @@
--- The words of a plain tag's record, from the words of its numbers: what the code works out, proved to be the record of the tag.
+-- What the inner functions say, in the code's words: nothing here is a promise to a caller.
+-- The words of a plain tag's record, from the words of its numbers, proved to be the record of the tag (proofs/Bridge.antt).
 use mathlib.Core.List.{List, [], _∷_}
 use mathlib.Core.Bool.{Bool, true, false}
 use Prim.Native.Nat.{ℕ, _+_, _-_, min}
@@ -25,17 +26,17 @@ use Rattle.plain.specs.declared.Shape as Code
 use Rattle.plain.specs.declared.Shape.the-variants.{Float, Pair, Ranged, Flag, Alpha, Colour, Clip, Beat, Fad, Fade, Move, Edge, Baseline, Weight, Reset, Unknown}
 use Rattle.plain.specs.declared.Kept.{Kept}
 use Rattle.plain.specs.declared.Kept.the-variants as Kept
-use Rattle.plain.specs.declared.Part as Words
+use Rattle.plain.specs.declared.PartWords.{PartWords}
 use Rattle.plain.specs.Names as Names
 use Rattle.plain.specs.Plain.{One, no, long, kept, far, part}
 
 -- the first record of a tag
-abbrev pub firstOf : List Record → Record
-firstOf [] = rec 0 0 0 0 0 0 0 0
-firstOf (r ∷ rs) = r
+abbrev pub firstRecord : List Record → Record
+firstRecord [] = rec 0 0 0 0 0 0 0 0
+firstRecord (r ∷ rs) = r
 
 abbrev pub recordOf : AnimatedTag → Record
-recordOf x = firstOf (records x)
+recordOf x = firstRecord (records x)
 
 -- what a tag gives, as the code has it
 abbrev pub keptOf : One → Kept
@@ -147,7 +148,7 @@ abbrev pub colourTag : ℕ → C.Colour → Kept
 colourTag k C.Colour.No = Kept.No
 colourTag k (Rgb r g b) = Kept.Tag (rec k r g b 0 0 0 0)
 
-abbrev pub partOf : Tag.Part → Words.Part
+abbrev pub partOf : Tag.Part → PartWords
 partOf x = record { offset = x .offset; size = x .size }
 
 abbrev pub drawingTag : ℕ → ℕ → ℕ → Kept
