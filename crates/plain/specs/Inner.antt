@@ -2,12 +2,12 @@
 -- The words of a plain tag's record, from the words of its numbers, proved to be the record of the tag (proofs/Bridge.antt).
 use mathlib.Core.List.{List, [], _∷_}
 use mathlib.Core.Bool.{Bool, true, false}
-use Prim.Native.Nat.{ℕ, _+_, _-_, min}
+use Prim.Native.Nat.{ℕ, _+_, _-_, _^_, min}
 use lib.Dec.{leb, ltb, eqb}
 use lib.Ieee.{binary32, ofBits, toSigned}
 use lib.ListN.{getD}
 use Rattle.scan.specs.Scan.{pick, trimStart, trimEnd}
-use Rattle.float.specs.Float.{zero as plusZero, maxZero, roundAway, roundByte, toWord}
+use Rattle.float.specs.Float.{zero as plusZero, reach, maxZero, roundAway, roundByte, toWord}
 use Rattle.numeral.specs.Numeral.{f32At, i32At, wordOfF32, wordOfI32}
 use Rattle.numeral.specs.declared.Numeral.{Numeral}
 use Rattle.numeral.specs.declared.Numeral.the-variants.{No, TooLong, Word}
@@ -107,8 +107,9 @@ notBelowZeroWord w = pick (ltb w 2147483648) w 0
 abbrev pub byteWord : ℕ → ℕ
 byteWord w = min (notBelowZeroWord w) 255
 
+-- a signed word beyond ±`reach`
 abbrev pub farWord : ℕ → Bool
-farWord w = pick (leb w 1000000000) false (ltb w 3294967296)
+farWord w = pick (leb w reach) false (ltb w (2 ^ 32 - reach))
 
 abbrev pub either : Bool → Bool → Bool
 either a b = pick a true b

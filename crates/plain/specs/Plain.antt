@@ -7,7 +7,7 @@ use lib.IntN.{ℤ, pos, negsuc}
 use lib.Ieee.{Float, toSigned}
 use lib.ListN.{length, getD}
 use Rattle.scan.specs.Scan.{pick, trimStart, trimEnd}
-use Rattle.float.specs.Float.{zero as plusZero, maxZero, roundAway, roundByte, toWord}
+use Rattle.float.specs.Float.{zero as plusZero, reach, maxZero, roundAway, roundByte, toWord}
 use Rattle.numeral.specs.Numeral.{F32, number, tooLong, f32At, I32, whole, i32At}
 use Rattle.numeral.specs.declared.Numeral.{Numeral}
 use Rattle.numeral.specs.declared.Numeral.the-variants.{No, TooLong, Word}
@@ -130,8 +130,8 @@ fadOf l = pick (leb 2 (length l)) (kept (Fad (notBelowZero (nthInt l 0)) (notBel
 
 -- 01, ground 4: a time beyond ±1,000,000,000
 abbrev pub isFar : ℤ → Bool
-isFar (pos n) = ltb 1000000000 n
-isFar (negsuc n) = leb 1000000000 n
+isFar (pos n) = ltb reach n
+isFar (negsuc n) = leb reach n
 
 -- \fade: the first seven of a list of at least seven
 unfoldable pub fadeOf : List ℤ → One
