@@ -6,7 +6,7 @@ use Prim.Native.Nat.{ℕ, _+_, _-_, _^_, min}
 use lib.Dec.{leb, ltb, eqb}
 use lib.Ieee.{binary32, ofBits, toSigned}
 use lib.ListN.{getD}
-use Rattle.scan.specs.Scan.{pick, trimStart, trimEnd}
+use Rattle.scan.specs.Scan.{pick, either, trimStart, trimEnd}
 use Rattle.float.specs.Float.{zero as plusZero, reach, maxZero, roundAway, roundByte, toWord}
 use Rattle.numeral.specs.Numeral.{f32At, i32At, wordOfF32, wordOfI32}
 use Rattle.numeral.specs.declared.Numeral.{Numeral}
@@ -110,9 +110,6 @@ byteWord w = min (notBelowZeroWord w) 255
 -- a signed word beyond ±`reach`
 abbrev pub farWord : ℕ → Bool
 farWord w = pick (leb w reach) false (ltb w (2 ^ 32 - reach))
-
-abbrev pub either : Bool → Bool → Bool
-either a b = pick a true b
 
 unfoldable pub fadTag : Bool → ℕ → List ℕ → Kept
 fadTag all n w = pick all (pick (leb 2 n) (Kept.Tag (rec 1 (notBelowZeroWord (nthWord w 0)) (notBelowZeroWord (nthWord w 1)) 0 0 0 0 0)) Kept.No) Kept.No

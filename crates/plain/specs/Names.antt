@@ -6,7 +6,7 @@ use Prim.Native.String.{String}
 use lib.Dec.{leb, eqb}
 use lib.Ieee.{Float}
 use lib.ListN.{getD}
-use Rattle.scan.specs.Scan.{bytes, pick, within}
+use Rattle.scan.specs.Scan.{bytes, pick, lower}
 use Rattle.tag.specs.Tag.{Part, Rgb, KaraokeKind, Fill, Sweep, Outline, AnimatedTag, Pos, Frz, Blur, Fscx, Fscy, Color1, Fs, ClipRect, ClipDrawing, Frx, Fry, Org, Bord, Xbord, Ybord, Shad, Xshad, Yshad, Fax, Fay, IClipRect, IClipDrawing, Color2, Color3, Color4, Alpha, Alpha1, Alpha2, Alpha3, Alpha4, Fsp, Q, An, A, Fe, I, U, S, P}
 
 -- what a tag's parameter is
@@ -118,10 +118,6 @@ tKey = key "t"
 unfoldable pub lookup : ℕ → List Named → Shape
 lookup k [] = unknown
 lookup k (n ∷ l) = let r = lookup k l in pick (eqb k (n .key)) (n .shape) r
-
--- `to_ascii_lowercase`
-abbrev pub lower : ℕ → ℕ
-lower b = pick (within 65 90 b) (b + 32) b
 
 -- n bytes from i on, in lower case
 unfoldable pub lowered : List ℕ → ℕ → ℕ → List ℕ

@@ -6,7 +6,7 @@ use lib.Dec.{leb, ltb, eqb}
 use lib.IntN.{ℤ, pos, negsuc}
 use lib.Ieee.{Float, toSigned}
 use lib.ListN.{length, getD}
-use Rattle.scan.specs.Scan.{pick, trimStart, trimEnd}
+use Rattle.scan.specs.Scan.{pick, either, trimStart, trimEnd}
 use Rattle.float.specs.Float.{zero as plusZero, reach, maxZero, roundAway, roundByte, toWord}
 use Rattle.numeral.specs.Numeral.{F32, number, tooLong, f32At, I32, whole, i32At}
 use Rattle.numeral.specs.declared.Numeral.{Numeral}
@@ -137,7 +137,7 @@ isFar (negsuc n) = leb reach n
 unfoldable pub fadeOf : List ℤ → One
 fadeOf l =
     let x = Fade (byteOf (nthInt l 0)) (byteOf (nthInt l 1)) (byteOf (nthInt l 2)) (nthInt l 3) (nthInt l 4) (nthInt l 5) (nthInt l 6) in
-    let f = pick (isFar (nthInt l 3)) true (pick (isFar (nthInt l 4)) true (pick (isFar (nthInt l 5)) true (isFar (nthInt l 6)))) in
+    let f = either (isFar (nthInt l 3)) (either (isFar (nthInt l 4)) (either (isFar (nthInt l 5)) (isFar (nthInt l 6)))) in
     pick (leb 7 (length l)) (pick f (far x) (kept x)) no
 
 -- a whole number from low to high

@@ -100,18 +100,6 @@ fn shape_of(key: u64) -> Shape
     }
 }
 
-fn lower(b: u8) -> u64
-    ensures { λ r. ⌜ r ≡ Rattle.plain.specs.Names.lower b ⌝ }
-{
-    if b < 65 {
-        return b as u64;
-    }
-    if b <= 90 {
-        return (b as u64) + 32;
-    }
-    b as u64
-}
-
 // The bytes between two places in lower case, as digits to the base 256.
 fn key_of(text: &[u8], from: usize, to: usize) -> u64
     requires { ⌜ (from ≤ to) × (to ≤ from + 5) × (to ≤ length (now text)) ⌝ }
@@ -120,7 +108,7 @@ fn key_of(text: &[u8], from: usize, to: usize) -> u64
     let mut i = from;
     let mut a: u64 = 0;
     while i < to {
-        a = a * 256 + lower(text[i]);
+        a = a * 256 + (scan::lower(text[i]) as u64);
         i += 1;
     }
     a
@@ -299,12 +287,6 @@ fn fad_of(n: lists::Numbers) -> Kept
     Kept::No
 }
 
-fn either(a: bool, b: bool) -> bool
-    ensures { λ r. ⌜ r ≡ Rattle.plain.specs.Inner.either a b ⌝ }
-{
-    if a { true } else { b }
-}
-
 fn fade_of(n: lists::Numbers) -> Kept
     ensures { λ r. ⌜ r ≡ fadeTag (n .all) (n .count) (n .words) ⌝ }
 {
@@ -321,9 +303,9 @@ fn fade_of(n: lists::Numbers) -> Kept
                 w[5],
                 w[6],
             );
-            if either(
+            if scan::either(
                 is_far(w[3]),
-                either(is_far(w[4]), either(is_far(w[5]), is_far(w[6]))),
+                scan::either(is_far(w[4]), scan::either(is_far(w[5]), is_far(w[6]))),
             ) {
                 return Kept::Far(x);
             }

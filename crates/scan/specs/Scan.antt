@@ -21,9 +21,20 @@ abbrev pub pick : {A : Type 0} → Bool → A → A → A
 pick true a d = a
 pick false a d = d
 
+-- two answers as one
+abbrev pub both : Bool → Bool → Bool
+both a b = pick a b false
+
+abbrev pub either : Bool → Bool → Bool
+either a b = pick a true b
+
 -- whether low ≤ b ≤ high
 abbrev pub within : ℕ → ℕ → ℕ → Bool
 within low high b = pick (leb low b) (leb b high) false
+
+-- Rust's `to_ascii_lowercase`
+abbrev pub lower : ℕ → ℕ
+lower b = pick (within 65 90 b) (b + 32) b
 
 -- the value of a digit, 0 to 9, then a to f of either case; 16 for any other byte
 abbrev pub digitOf : ℕ → ℕ
