@@ -3,8 +3,7 @@ use mathlib.Core.Path.{_≡_, refl}
 use mathlib.Core.List.{List, [], _∷_, map}
 use Prim.Native.Nat.{ℕ}
 use Prim.Native.String.{String}
-use Rattle.scan.specs.Scan.{span, skip, skipBack, blankAt, blankBefore}
-use Rattle.numeral.specs.Sheet.{bytes}
+use Rattle.scan.specs.Scan.{bytes, span, skip, skipBack, blankAt, blankBefore}
 use Rattle.numeral.specs.Numeral.{value, wholeNumber}
 use Rattle.refusal.specs.Refusal.{textGround}
 use Rattle.refusal.specs.declared.Refusal.the-variants.{NotAscii}

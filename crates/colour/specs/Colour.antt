@@ -9,7 +9,7 @@ use Rattle.scan.specs.declared.Class.the-variants.{Is, Either}
 use Rattle.numeral.specs.Numeral.{hexAt}
 use Rattle.numeral.specs.declared.Numeral.{Numeral}
 use Rattle.numeral.specs.declared.Numeral.the-variants.{No, TooLong, Word}
-use Rattle.colour.specs.declared.Part.{Part}
+use Rattle.colour.specs.declared.Stretch.{Stretch}
 use Rattle.colour.specs.declared.Colour.{Colour}
 use Rattle.colour.specs.declared.Colour.the-variants.{Rgb}
 
@@ -17,13 +17,13 @@ abbrev pub isAmpersand : ℕ → Bool
 isAmpersand b = inClass (Is 38) b
 
 -- `trim`
-unfoldable pub trimmed : List ℕ → ℕ → ℕ → Part
+unfoldable pub trimmed : List ℕ → ℕ → ℕ → Stretch
 trimmed s p q =
     let a = trimStart s p q in
     record { from = a; to = trimEnd s a q }
 
 -- `trim_matches('&')`
-unfoldable pub ampersands : List ℕ → ℕ → ℕ → Part
+unfoldable pub ampersands : List ℕ → ℕ → ℕ → Stretch
 ampersands s p q =
     let a = spanTo isAmpersand s p q in
     record { from = a; to = backTo isAmpersand s a q }
@@ -33,7 +33,7 @@ unfoldable pub zeroXAt : List ℕ → ℕ → ℕ → ℕ
 zeroXAt s i e = pick (leb 2 (e - i)) (pick (eqb (getD s i 0) 48) (pick (eqb (getD s (i + 1) 0) 120) 2 0) 0) 0
 
 -- what both drop first: blanks, ampersands, then every H or h and every `0x` in front
-unfoldable pub digits : List ℕ → ℕ → ℕ → Part
+unfoldable pub digits : List ℕ → ℕ → ℕ → Stretch
 digits s p q =
     let t = trimmed s p q in
     let u = ampersands s (t .from) (t .to) in

@@ -6,8 +6,8 @@ ghost use Rattle.colour.specs.Colour.{trimmed as trimmedTo, ampersands a
 ghost use Rattle.colour.specs.Inner.{Inside};
 ghost use Rattle.scan.specs.Scan.{skipTo, Place};
 
-// A part of the text, from one place to another.
-pub struct Part {
+// What stands in the text from one place to another.
+pub struct Stretch {
     pub from: usize,
     pub to: usize,
 }
@@ -19,23 +19,23 @@ pub enum Colour {
 }
 
 // The part less the blanks at both ends.
-fn trimmed(text: &[u8], p: usize, q: usize) -> Part
+fn trimmed(text: &[u8], p: usize, q: usize) -> Stretch
     requires { ⌜ (p ≤ q) × (q ≤ length (now text)) ⌝ }
     ensures { λ r. ⌜ Inside p q (trimmedTo (now (text .entry)) p q) r ⌝ }
 {
     let from = scan::trim_start(text, p, q);
     let to = scan::trim_end(text, from, q);
-    Part { from, to }
+    Stretch { from, to }
 }
 
 // The part less the ampersands at both ends.
-fn ampersands(text: &[u8], p: usize, q: usize) -> Part
+fn ampersands(text: &[u8], p: usize, q: usize) -> Stretch
     requires { ⌜ (p ≤ q) × (q ≤ length (now text)) ⌝ }
     ensures { λ r. ⌜ Inside p q (ampersandsTo (now (text .entry)) p q) r ⌝ }
 {
     let from = scan::span(text, scan::Class::Is(38), p, q);
     let to = scan::span_back(text, scan::Class::Is(38), from, q);
-    Part { from, to }
+    Stretch { from, to }
 }
 
 // The width of a `0x` that starts at i, 0 where none does.
@@ -69,7 +69,7 @@ fn past_zero_x(text: &[u8], from: usize, to: usize) -> usize
 }
 
 // The part behind what may stand before the digits.
-fn digits_of(text: &[u8], p: usize, q: usize) -> Part
+fn digits_of(text: &[u8], p: usize, q: usize) -> Stretch
     requires { ⌜ (p ≤ q) × (q ≤ length (now text)) ⌝ }
     ensures { λ r. ⌜ Inside p q (digits (now (text .entry)) p q) r ⌝ }
 {
@@ -78,7 +78,7 @@ fn digits_of(text: &[u8], p: usize, q: usize) -> Part
     let to = u.to;
     let h = scan::span(text, scan::Class::Either(72, 104), u.from, to);
     let from = past_zero_x(text, h, to);
-    Part { from, to }
+    Stretch { from, to }
 }
 
 fn capped(n: numeral::Numeral) -> numeral::Numeral

@@ -4,8 +4,7 @@ use mathlib.Core.List.{List, [], _∷_, map}
 use Prim.Native.Nat.{ℕ}
 use lib.Ieee.{round, toBits, ofInt, add, mul, div, sum}
 use Prim.Native.String.{String}
-use Rattle.scan.specs.Scan.{span, skip, skipBack, blankAt, blankBefore}
-use Rattle.numeral.specs.Sheet.{bytes}
+use Rattle.scan.specs.Scan.{bytes, span, skip, skipBack, blankAt, blankBefore}
 use Rattle.numeral.specs.Numeral.{value, splitAt, exponentAt, floatOf, f32Of}
 use Rattle.tag.specs.declared.Record.{Record}
 use Rattle.tag.specs.Table.{rec}

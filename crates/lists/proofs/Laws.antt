@@ -14,7 +14,7 @@ use Rattle.numeral.specs.declared.Numeral.{Numeral}
 use Rattle.lists.specs.declared.Numbers.{Numbers}
 use Rattle.lists.specs.declared.Found.{Found}
 use Rattle.lists.specs.declared.Found.the-variants.{Nowhere, At}
-use Rattle.lists.specs.Lists.{Part, commaTo, split, parts, firstOf}
+use Rattle.lists.specs.Lists.{Stretch, commaTo, split, parts, firstOf}
 use Rattle.lists.specs.Inner.{itemAt, items, itemsTo, isWord, wordOf, longOf, allWords, filled, firstLong, numbersOf}
 
 -- more fuel than there are bytes left changes nothing
@@ -38,7 +38,7 @@ fuel s e (suc n) (suc m) p h a b =
 
 -- the last part, and one with a comma behind it; the comma or the end is at c
 module _ (s : List ℕ) (e p c : ℕ) (h : p ≤ e) (q : c ≡ commaTo s p e) where
-  part : Part
+  part : Stretch
   part = record { from = p; to = c }
 
   split-last : e ≤ c → c ≤ e → parts s p e ≡ part ∷ []

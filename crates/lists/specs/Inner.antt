@@ -10,14 +10,14 @@ use Rattle.numeral.specs.declared.Numeral.the-variants.{No, TooLong, Word}
 use Rattle.lists.specs.declared.Numbers.{Numbers}
 use Rattle.lists.specs.declared.Found.{Found}
 use Rattle.lists.specs.declared.Found.the-variants.{Nowhere, At}
-use Rattle.lists.specs.Lists.{Part, parts, firstOf}
+use Rattle.lists.specs.Lists.{Stretch, parts, firstOf}
 
 -- the number that a part holds: an i32, or an f32
 abbrev pub itemAt : Bool → List ℕ → ℕ → ℕ → Numeral
 itemAt true s p q = wordOfI32 (i32At s p q)
 itemAt false s p q = wordOfF32 (f32At s p q)
 
-unfoldable pub items : Bool → List ℕ → List Part → List Numeral
+unfoldable pub items : Bool → List ℕ → List Stretch → List Numeral
 items whole s [] = []
 items whole s (x ∷ xs) = itemAt whole s (x .from) (x .to) ∷ items whole s xs
 

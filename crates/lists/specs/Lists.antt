@@ -8,7 +8,7 @@ use Rattle.lists.specs.declared.Found.{Found}
 use Rattle.lists.specs.declared.Found.the-variants.{Nowhere, At}
 
 -- a part of the list, from one place to another
-pub record Part : Type 0 where
+pub record Stretch : Type 0 where
   pub from : ℕ
   pub to : ℕ
 
@@ -17,15 +17,15 @@ abbrev pub commaTo : List ℕ → ℕ → ℕ → ℕ
 commaTo s p e = spanTo (inClass (Not 44)) s p e
 
 -- `split(',')`: there is always one part
-unfoldable pub split : List ℕ → ℕ → ℕ → ℕ → List Part
+unfoldable pub split : List ℕ → ℕ → ℕ → ℕ → List Stretch
 split s e zero p = record { from = p; to = e } ∷ []
 split s e (suc n) p =
     let c = commaTo s p e in
     let more = split s e n (c + 1) in
-    let x : Part = record { from = p; to = c } in
+    let x : Stretch = record { from = p; to = c } in
     pick (ltb c e) (x ∷ more) (x ∷ [])
 
-abbrev pub parts : List ℕ → ℕ → ℕ → List Part
+abbrev pub parts : List ℕ → ℕ → ℕ → List Stretch
 parts s p e = split s e (e - p) p
 
 -- the first of two places that there is

@@ -7,9 +7,8 @@ use Prim.Native.String.{String}
 use lib.IntN.{ℤ, pos, negℤ}
 use lib.Ieee.{round, toBits}
 use lib.ListN.{length}
-use Rattle.scan.specs.Scan.{span, skip, skipBack, blankAt, blankBefore}
+use Rattle.scan.specs.Scan.{bytes, span, skip, skipBack, blankAt, blankBefore}
 use Rattle.numeral.specs.Numeral.{value, wholeNumber, wordOfI32, i32Of, I32, splitAt, exponentAt, floatOf, f32Of}
-use Rattle.numeral.specs.Sheet.{bytes}
 use Rattle.lists.specs.declared.Numbers.{Numbers}
 use Rattle.lists.specs.declared.Found.{Found}
 use Rattle.lists.specs.declared.Found.the-variants.{Nowhere, At}

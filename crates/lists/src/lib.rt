@@ -1,9 +1,7 @@
 // Comma lists of numbers.
 ghost use mathlib.Core.Path.{_≡_};
-ghost use mathlib.Core.Bool.{false};
 ghost use Prim.Native.Nat.{_≤_};
 ghost use lib.ListN.{length, set};
-ghost use Rattle.scan.specs.Scan.{pick};
 ghost use Rattle.lists.specs.Lists.{firstOf};
 ghost use Rattle.lists.specs.Inner.{itemAt, itemsTo, isWord, wordOf, longOf, numbersOf};
 
@@ -64,12 +62,6 @@ pub fn long_of(n: numeral::Numeral) -> Found
     }
 }
 
-fn both(a: bool, b: bool) -> bool
-    ensures { λ r. ⌜ r ≡ pick a b false ⌝ }
-{
-    if a { b } else { false }
-}
-
 // The first of two places that there is; made anew, as the unused bytes of an enum that is handed on are copied too.
 pub fn first(a: Found, b: Found) -> Found
     ensures { λ r. ⌜ r ≡ firstOf a b ⌝ }
@@ -107,7 +99,7 @@ pub fn numbers_at(text: &[u8], whole: bool, p: usize, e: usize) -> Numbers
     loop {
         let c = scan::span(text, scan::Class::Not(44), i, e);
         let n = item(text, whole, i, c);
-        all = both(all, is_word(n));
+        all = scan::both(all, is_word(n));
         let next = stored(words, count, word_of(n));
         words = next;
         too_long = first(too_long, long_of(n));

@@ -2,20 +2,13 @@
 use mathlib.Core.Path.{_≡_, refl}
 use mathlib.Core.List.{List, [], _∷_, map}
 use Prim.Native.Nat.{ℕ}
-use Prim.Native.Char.{code}
 use Prim.Native.String.{String}
-use Prim.Native.String as String
 use lib.Ieee.{round, toBits}
 use lib.ListN.{length}
-use Rattle.scan.specs.Scan.{span, skip, skipBack, blankAt, blankBefore}
+use Rattle.scan.specs.Scan.{bytes, span, skip, skipBack, blankAt, blankBefore}
 use Rattle.numeral.specs.declared.Numeral.{Numeral}
 use Rattle.numeral.specs.declared.Numeral.the-variants.{No, TooLong, Word}
 use Rattle.numeral.specs.Numeral.{value, wholeNumber, wordOfI32, i32Of, i32At, hexAt, splitAt, exponentAt, wordOfF32, floatOf, f32Of, f32At}
-
--- the bytes of an ASCII text
-abbrev pub bytes : String → List ℕ
-bytes String.[] = []
-bytes (String._∷_ c t) = code c ∷ bytes t
 
 -- that a reading of whole texts gives each text's answer
 abbrev pub Reads : {A : Type 0} → (List ℕ → ℕ → ℕ → A) → List (String × A) → Type 0

@@ -24,8 +24,8 @@ use Rattle.tag.specs.Table.{rec, head, records, bits, oneFloat, twoFloats, four
 use Rattle.plain.specs.declared.Kept.{Kept}
 use Rattle.plain.specs.declared.Kept.the-variants as Kept
 use Rattle.plain.specs.Names.{Shape, float, pair, ranged, flag, alpha, colour, clip, beat, fad, fade, move, edge, baseline, weight, reset, unknown, names, lookup, keyAt}
-use Rattle.plain.specs.Plain.{kept, far, part, mapF32, mapAlpha, mapColour, floatOf, f32s, firstLong, clipOf, beatOf, nth, shaped, isFn, isNamedReset, plainAt}
-use Rattle.plain.specs.Coded.{keptOf, kindOf, codeOf, keepWord, beatWord, edgeWord, baselineWord, longOr, nthWord, alphaTag, colourTag, clipTag, drawingTag, numbersAt, shapedTag}
+use Rattle.plain.specs.Plain.{kept, far, part, mapF32, mapAlpha, mapColour, orZero, f32s, unlessLong, clipOf, beatOf, nth, shaped, isFn, isNamedReset, plainAt}
+use Rattle.plain.specs.Inner.{keptOf, kindOf, codeOf, keepWord, beatWord, edgeWord, baselineWord, longOr, nthWord, alphaTag, colourTag, clipTag, drawingTag, numbersAt, shapedTag}
 use Rattle.plain.proofs.Numbers.{Back, f32-back, i32-small}
 use Rattle.plain.proofs.Commas.{Floats, floats-read, floats-length, ints-read}
 use Rattle.plain.proofs.Every.{Every, gather, find}
@@ -73,7 +73,7 @@ sound =
 -- ---- one number
 
 module _ (f : Float → AnimatedTag) (g : ℕ → Record) (h : (x : Float) → Back x → records (f x) ≡ g (bits x) ∷ []) where
-  gives-f32 : (y : F32) → Back (floatOf y) → Gives (keepWord g (wordOfF32 y)) (mapF32 f y)
+  gives-f32 : (y : F32) → Back (orZero y) → Gives (keepWord g (wordOfF32 y)) (mapF32 f y)
   gives-f32 F32.none b = nothing
   gives-f32 (tooLong p) b = late p
   gives-f32 (number x) b = tag (h x b)
@@ -99,7 +99,7 @@ module _ (f : Float → Float → Float → Float → AnimatedTag) (g : Tag.Part
       (pick (n .all)
       (longOr (n .«too_long») (Kept.Tag (rec k (nthWord (n .words) 0) (nthWord (n .words) 1) (nthWord (n .words) 2) (nthWord (n .words) 3) 0 0 0)))
       (longOr (n .«too_long») (drawingTag d p q)))
-      (firstLong (f32s s (parts s p q))
+      (unlessLong (f32s s (parts s p q))
       (pick b (kept (f (nth (pick b l []) 0) (nth (pick b l []) 1) (nth (pick b l []) 2) (nth (pick b l []) 3))) (kept (g (part p q)))))
   four {b = true} {l} r =
       rw (r .all, r .words 0 (lit< tt), r .words 1 (lit< tt), r .words 2 (lit< tt), r .words 3 (lit< tt)) (gives-long _ _ s (parts s p q) (tag (h (nth l 0) (nth l 1) (nth l 2) (nth l 3))))

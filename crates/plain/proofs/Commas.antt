@@ -14,11 +14,11 @@ use Rattle.float.specs.Float.{zero as plusZero, toWord}
 use Rattle.numeral.specs.Numeral.{F32, number, tooLong, f32At, I32, whole, i32At, wordOfF32, wordOfI32}
 use Rattle.numeral.specs.declared.Numeral.{Numeral}
 use Rattle.lists.specs.declared.Numbers.{Numbers}
-use Rattle.lists.specs.Lists.{Part, parts}
+use Rattle.lists.specs.Lists.{Stretch, parts}
 use Rattle.lists.specs.Inner.{items, wordOf, isWord, allWords, filled}
 use Rattle.tag.specs.Table.{bits}
 use Rattle.plain.specs.Plain.{isNumber, isWhole, f32s, allFloats, floatsIn, nth, i32s, allInts, intsIn, nthInt}
-use Rattle.plain.specs.Coded.{nthWord, numbersAt}
+use Rattle.plain.specs.Inner.{nthWord, numbersAt}
 use Rattle.plain.proofs.Numbers.{Back, f32-back, zero-back, word-float, Small, i32-small, zero-small, word-int}
 
 -- ---- the array of the words
@@ -47,7 +47,7 @@ word-at l n h =
 module _ (s : List ℕ) where
   -- ---- a list of f32
 
-  floats-all : (l : List Part) → allWords (items false s l) ≡ allFloats (f32s s l)
+  floats-all : (l : List Stretch) → allWords (items false s l) ≡ allFloats (f32s s l)
   unfolding items f32s allWords allFloats
   floats-all [] = refl
   floats-all (x ∷ l) = rw (floats-all l) (ap (λ (b : Bool). pick b (allFloats (f32s s l)) false) (go (f32At s (x .from) (x .to))))
@@ -57,26 +57,26 @@ module _ (s : List ℕ) where
       go (tooLong p) = refl
       go (number z) = refl
 
-  floats-count : (l : List Part) → length (items false s l) ≡ length (floatsIn (f32s s l))
+  floats-count : (l : List Stretch) → length (items false s l) ≡ length (floatsIn (f32s s l))
   unfolding items f32s floatsIn
   floats-count [] = refl
   floats-count (x ∷ l) = ap suc (floats-count l)
 
-  pub floats-length : (l : List Part) → length (items false s l) ≡ length (f32s s l)
+  pub floats-length : (l : List Stretch) → length (items false s l) ≡ length (f32s s l)
   unfolding items f32s
   floats-length [] = refl
   floats-length (x ∷ l) = ap suc (floats-length l)
 
-  float-at : (l : List Part) (n : ℕ) → getD (map wordOf (items false s l)) n 0 ≡ bits (nth (floatsIn (f32s s l)) n)
+  float-at : (l : List Stretch) (n : ℕ) → getD (map wordOf (items false s l)) n 0 ≡ bits (nth (floatsIn (f32s s l)) n)
   unfolding items f32s floatsIn toBits
   float-at [] n = refl
   float-at (x ∷ l) zero = word-float (f32At s (x .from) (x .to))
   float-at (x ∷ l) (suc n) = float-at l n
 
-  float-word : (l : List Part) (n : ℕ) → n < 7 → nthWord (filled (replicate 7 0) 0 (items false s l)) n ≡ bits (nth (floatsIn (f32s s l)) n)
+  float-word : (l : List Stretch) (n : ℕ) → n < 7 → nthWord (filled (replicate 7 0) 0 (items false s l)) n ≡ bits (nth (floatsIn (f32s s l)) n)
   float-word l n h = word-at (items false s l) n h ∙ float-at l n
 
-  floats-back : (l : List Part) (n : ℕ) → Back (nth (floatsIn (f32s s l)) n)
+  floats-back : (l : List Stretch) (n : ℕ) → Back (nth (floatsIn (f32s s l)) n)
   unfolding f32s floatsIn
   floats-back [] n = zero-back
   floats-back (x ∷ l) zero = f32-back s (x .from) (x .to)
@@ -84,7 +84,7 @@ module _ (s : List ℕ) where
 
   -- ---- a list of i32
 
-  ints-all : (l : List Part) → allWords (items true s l) ≡ allInts (i32s s l)
+  ints-all : (l : List Stretch) → allWords (items true s l) ≡ allInts (i32s s l)
   unfolding items i32s allWords allInts
   ints-all [] = refl
   ints-all (x ∷ l) = rw (ints-all l) (ap (λ (b : Bool). pick b (allInts (i32s s l)) false) (go (i32At s (x .from) (x .to))))
@@ -93,21 +93,21 @@ module _ (s : List ℕ) where
       go I32.none = refl
       go (whole z) = refl
 
-  ints-count : (l : List Part) → length (items true s l) ≡ length (intsIn (i32s s l))
+  ints-count : (l : List Stretch) → length (items true s l) ≡ length (intsIn (i32s s l))
   unfolding items i32s intsIn
   ints-count [] = refl
   ints-count (x ∷ l) = ap suc (ints-count l)
 
-  int-at : (l : List Part) (n : ℕ) → getD (map wordOf (items true s l)) n 0 ≡ toWord (nthInt (intsIn (i32s s l)) n)
+  int-at : (l : List Stretch) (n : ℕ) → getD (map wordOf (items true s l)) n 0 ≡ toWord (nthInt (intsIn (i32s s l)) n)
   unfolding items i32s intsIn
   int-at [] n = refl
   int-at (x ∷ l) zero = word-int (i32At s (x .from) (x .to))
   int-at (x ∷ l) (suc n) = int-at l n
 
-  int-word : (l : List Part) (n : ℕ) → n < 7 → nthWord (filled (replicate 7 0) 0 (items true s l)) n ≡ toWord (nthInt (intsIn (i32s s l)) n)
+  int-word : (l : List Stretch) (n : ℕ) → n < 7 → nthWord (filled (replicate 7 0) 0 (items true s l)) n ≡ toWord (nthInt (intsIn (i32s s l)) n)
   int-word l n h = word-at (items true s l) n h ∙ int-at l n
 
-  ints-small : (l : List Part) (n : ℕ) → Small (nthInt (intsIn (i32s s l)) n)
+  ints-small : (l : List Stretch) (n : ℕ) → Small (nthInt (intsIn (i32s s l)) n)
   unfolding i32s intsIn
   ints-small [] n = zero-small
   ints-small (x ∷ l) zero = i32-small s (x .from) (x .to)

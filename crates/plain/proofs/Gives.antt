@@ -11,9 +11,8 @@ use lib.ListN.{length, getD}
 use borrow.Author.Tests.{lt-leb, ne-eqb}
 use Rattle.scan.specs.Scan.{pick, trimStart, trimEnd}
 use Rattle.numeral.specs.Numeral.{F32, tooLong, number, f32At, I32, whole, wordOfF32, wordOfI32}
-use Rattle.lists.specs.Inner as Lists
-use Rattle.lists.specs.Lists.{Part, firstOf}
-use Rattle.lists.specs.Inner.{items, longOf}
+use Rattle.lists.specs.Lists.{Stretch, firstOf}
+use Rattle.lists.specs.Inner.{items, longOf, firstLong}
 use Rattle.lists.specs.declared.Numbers.{Numbers}
 use Rattle.lists.specs.declared.Found.{Found}
 use Rattle.tag.specs.declared.Record.{Record}
@@ -22,8 +21,8 @@ use Rattle.tag.specs.Table.{rec, head, records, twoFloats, oneNumber, flagWord}
 use Rattle.tag.proofs.Tags.{records-own}
 use Rattle.plain.specs.declared.Kept.{Kept}
 use Rattle.plain.specs.declared.Kept.the-variants as Kept
-use Rattle.plain.specs.Plain.{One, no, long, kept, far, part, f32s, firstLong, pairOf, moveOf, fadOf, fadeOf, rangedOf, weightOf, flagOf, resetOf, intOf, nthInt, isFar}
-use Rattle.plain.specs.Coded.{keptOf, longOr, pairTag, moveTag, fadTag, fadeTag, rangedTag, weightTag, flagTag, resetTag}
+use Rattle.plain.specs.Plain.{One, no, long, kept, far, part, f32s, unlessLong, pairOf, moveOf, fadOf, fadeOf, rangedOf, weightOf, flagOf, resetOf, intOf, nthInt, isFar}
+use Rattle.plain.specs.Inner.{keptOf, longOr, pairTag, moveTag, fadTag, fadeTag, rangedTag, weightTag, flagTag, resetTag}
 use Rattle.plain.proofs.Numbers.{Small, high, clip-word, byte-word, far-word}
 use Rattle.plain.proofs.Commas.{Floats, Ints}
 
@@ -69,16 +68,16 @@ gives-none false = nothing
 
 -- a numeral that is too long comes first
 module _ (k : Kept) (o : One) where
-  long-step : (y : F32) (l : List F32) (f : Found) → Gives (longOr f k) (firstLong l o) → Gives (longOr (firstOf (longOf (wordOfF32 y)) f) k) (firstLong (y ∷ l) o)
-  unfolding firstLong
+  long-step : (y : F32) (l : List F32) (f : Found) → Gives (longOr f k) (unlessLong l o) → Gives (longOr (firstOf (longOf (wordOfF32 y)) f) k) (unlessLong (y ∷ l) o)
+  unfolding unlessLong
   long-step F32.none l f g = g
   long-step (tooLong p) l f g = late p
   long-step (number x) l f g = g
 
-  pub gives-long : (s : List ℕ) (l : List Part) → Gives k o → Gives (longOr (Lists.firstLong (items false s l)) k) (firstLong (f32s s l) o)
-  unfolding items f32s Lists.firstLong firstLong
+  pub gives-long : (s : List ℕ) (l : List Stretch) → Gives k o → Gives (longOr (firstLong (items false s l)) k) (unlessLong (f32s s l) o)
+  unfolding items f32s firstLong unlessLong
   gives-long s [] g = g
-  gives-long s (x ∷ l) g = long-step (f32At s (x .from) (x .to)) (f32s s l) (Lists.firstLong (items false s l)) (gives-long s l g)
+  gives-long s (x ∷ l) g = long-step (f32At s (x .from) (x .to)) (f32s s l) (firstLong (items false s l)) (gives-long s l g)
 
 module _ (n : Numbers) where
   pub gives-pair : (f : Float → Float → AnimatedTag) (k : ℕ) → ((x y : Float) → records (f x y) ≡ twoFloats k x y ∷ []) → {b : Bool} {l : List Float} → Floats n b l → Gives (pairTag k (n .all) (n .count) (n .words)) (pairOf f (pick b l []))

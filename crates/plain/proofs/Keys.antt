@@ -8,36 +8,28 @@ use native.Mathlib.Numerals.{add-one}
 use native.Mathlib.Omega.{arith}
 use lib.Dec.{leb, eqb, lit<}
 use lib.ListN.{getD}
-use borrow.Author.Tests.{ne-eqb, le-leb, lt-leb, leb-true}
-use mathlib.Core.Logic.{⊎-elim}
-use Rattle.scan.specs.Scan.{pick, within}
-use Rattle.scan.proofs.Laws.{more, none, le-or-lt, picked}
-use Rattle.plain.specs.Names.{Named, unknown, lookup, lower, key}
+use borrow.Author.Tests.{ne-eqb, leb-true}
+use Rattle.scan.specs.Scan.{pick, lower}
+use Rattle.scan.proofs.Laws.{more, none}
+use Rattle.plain.specs.Names.{Named, unknown, lookup, keyWith, keyOf, key, lowered}
 use Rattle.plain.specs.Plain.{isFn}
 
 -- ---- the bytes of a name, one by one
 
-pub key-end : (s : List ℕ) (i e a : ℕ) → e ≤ i → key s (e - i) i a ≡ a
-unfolding key
+pub key-end : (s : List ℕ) (i e a : ℕ) → e ≤ i → keyWith a (lowered s (e - i) i) ≡ a
+unfolding lowered
 key-end s i e a h = rw (none i e h)
 
-pub key-go : (s : List ℕ) (i e a : ℕ) → i < e → key s (e - i) i a ≡ key s (e - (i + 1)) (i + 1) (a * 256 + lower (getD s i 0))
-unfolding key
+pub key-go : (s : List ℕ) (i e a : ℕ) → i < e → keyWith a (lowered s (e - i) i) ≡ keyWith (a * 256 + lower (getD s i 0)) (lowered s (e - (i + 1)) (i + 1))
+unfolding lowered
 key-go s i e a h = rw (more i e h)
-
-pub lower-small : (b : ℕ) → b < 256 → lower b < 256
-lower-small b h =
-    ⊎-elim
-    (λ (l : b ≤ 90). picked (λ n. n < 256) (within 65 90 b) (b + 32) b (omega arith) h)
-    (λ (l : 90 < b). rw (le-leb 65 b (omega arith), lt-leb b 90 l) h)
-    (le-or-lt b 90)
 
 -- fn goes on
 pub fn-goes-on : (s : List ℕ) (i m : ℕ) → isFn s i m ≡ true → i + 2 ≤ m
 unfolding isFn
 fn-goes-on s i m h = go (leb 3 (m - i)) refl h
   where
-    go : (b : Bool) → leb 3 (m - i) ≡ b → pick b (eqb (key s 2 i 0) 0x666E) false ≡ true → i + 2 ≤ m
+    go : (b : Bool) → leb 3 (m - i) ≡ b → pick b (eqb (keyOf (lowered s 2 i)) (key "fn")) false ≡ true → i + 2 ≤ m
     go true e g = omega (arith, leb-true 3 (m - i) e)
     go false e g = absurd (true≢false (sym g))
 

@@ -16,8 +16,8 @@ use Rattle.numeral.specs.Numeral.{F32, tooLong, number, f32Of, f32At, isSign, i
 use Rattle.numeral.proofs.Reach.{number-in-reach}
 use Rattle.lists.specs.Inner.{wordOf}
 use Rattle.tag.specs.Table.{bits}
-use Rattle.plain.specs.Plain.{floatOf, intOf, notBelowZero, byteOf, isFar}
-use Rattle.plain.specs.Coded.{notBelowZeroWord, byteWord, farWord}
+use Rattle.plain.specs.Plain.{orZero, intOf, notBelowZero, byteOf, isFar}
+use Rattle.plain.specs.Inner.{notBelowZeroWord, byteWord, farWord}
 
 -- ---- f32: the bits of what a text gives stand for it
 
@@ -29,16 +29,16 @@ unfolding ofBits toBits
 zero-back = refl
 
 module _ (s : List ℕ) where
-  back-of : (a b : ℕ) (x : F32) → f32Of s a b ≡ x → Back (floatOf x)
+  back-of : (a b : ℕ) (x : F32) → f32Of s a b ≡ x → Back (orZero x)
   back-of a b F32.none e = zero-back
   back-of a b (tooLong p) e = zero-back
   back-of a b (number x) e = number-in-reach s a b x e .back
 
-  pub f32-back : (p q : ℕ) → Back (floatOf (f32At s p q))
+  pub f32-back : (p q : ℕ) → Back (orZero (f32At s p q))
   f32-back p q = back-of (trimStart s p q) (trimEnd s (trimStart s p q) q) (f32At s p q) refl
 
 -- where there is none, both count as 0
-pub word-float : (x : F32) → wordOf (wordOfF32 x) ≡ bits (floatOf x)
+pub word-float : (x : F32) → wordOf (wordOfF32 x) ≡ bits (orZero x)
 unfolding toBits
 word-float F32.none = refl
 word-float (tooLong p) = refl

@@ -1,4 +1,4 @@
 pub mod Names
 pub mod Plain
-pub mod Coded
+pub mod Inner
 pub mod Sheet

@@ -2,10 +2,11 @@
 use mathlib.Core.List.{List, [], _∷_}
 use mathlib.Core.Bool.{Bool}
 use Prim.Native.Nat.{ℕ, zero, suc, _+_, _-_, _*_}
+use Prim.Native.String.{String}
 use lib.Dec.{leb, eqb}
 use lib.Ieee.{Float}
 use lib.ListN.{getD}
-use Rattle.scan.specs.Scan.{pick, within}
+use Rattle.scan.specs.Scan.{bytes, pick, lower}
 use Rattle.tag.specs.Tag.{Part, Rgb, KaraokeKind, Fill, Sweep, Outline, AnimatedTag, Pos, Frz, Blur, Fscx, Fscy, Color1, Fs, ClipRect, ClipDrawing, Frx, Fry, Org, Bord, Xbord, Ybord, Shad, Xshad, Yshad, Fax, Fay, IClipRect, IClipDrawing, Color2, Color3, Color4, Alpha, Alpha1, Alpha2, Alpha3, Alpha4, Fsp, Q, An, A, Fe, I, U, S, P}
 
 -- what a tag's parameter is
@@ -40,81 +41,91 @@ pub record Named : Type 0 where
   pub key : ℕ
   pub shape : Shape
 
-abbrev named : ℕ → Shape → Named
-named k s = record { key = k; shape = s }
+-- A name is compared as a number, its key: its bytes as digits to the base 256. `keyWith a` goes on behind the key a.
+abbrev pub keyWith : ℕ → List ℕ → ℕ
+keyWith a [] = a
+keyWith a (b ∷ l) = keyWith (a * 256 + b) l
 
--- A name is its bytes in lower case, read as digits to the base 256: 0x667273 is f, r, s. \K alone keeps its case.
--- \t is not here: it holds tags. \fn and a named \r take their names from the letters behind them.
+abbrev pub keyOf : List ℕ → ℕ
+keyOf l = keyWith 0 l
+
+-- the key of a name written out
+abbrev pub key : String → ℕ
+key name = keyOf (bytes name)
+
+abbrev named : String → Shape → Named
+named name s = record { key = key name; shape = s }
+
+-- The names, in lower case: a text's name is put into it before it is looked up (`keyAt`).
+-- \t is not here: it holds tags. \fn and a named \r take a name from the letters behind them (`isFn`, `isNamedReset` of Plain.antt).
 unfoldable pub names : List Named
 names =
-    named 0x666164 fad ∷
-    named 0x66616465 fade ∷
-    named 0x6D6F7665 move ∷
-    named 0x66727A (float Frz) ∷
-    named 0x6672 (float Frz) ∷
-    named 0x667278 (float Frx) ∷
-    named 0x667279 (float Fry) ∷
-    named 0x706F73 (pair Pos) ∷
-    named 0x6F7267 (pair Org) ∷
-    named 0x626C7572 (float Blur) ∷
-    named 0x6265 edge ∷
-    named 0x626F7264 (float Bord) ∷
-    named 0x78626F7264 (float Xbord) ∷
-    named 0x79626F7264 (float Ybord) ∷
-    named 0x73686164 (float Shad) ∷
-    named 0x7873686164 (float Xshad) ∷
-    named 0x7973686164 (float Yshad) ∷
-    named 0x70626F baseline ∷
-    named 0x70 (ranged 0 255 P) ∷
-    named 0x666178 (float Fax) ∷
-    named 0x666179 (float Fay) ∷
-    named 0x66736378 (float Fscx) ∷
-    named 0x66736379 (float Fscy) ∷
-    named 0x6673 (float Fs) ∷
-    named 0x667370 (float Fsp) ∷
-    named 0x71 (ranged 0 3 Q) ∷
-    named 0x616E (ranged 1 9 An) ∷
-    named 0x61 (ranged 0 255 A) ∷
-    named 0x6B (beat Fill) ∷
-    named 0x4B (beat Sweep) ∷
-    named 0x6B66 (beat Sweep) ∷
-    named 0x6B6F (beat Outline) ∷
-    named 0x63 (colour Color1) ∷
-    named 0x3163 (colour Color1) ∷
-    named 0x3263 (colour Color2) ∷
-    named 0x3363 (colour Color3) ∷
-    named 0x3463 (colour Color4) ∷
-    named 0x616C706861 (alpha Alpha) ∷
-    named 0x3161 (alpha Alpha1) ∷
-    named 0x3261 (alpha Alpha2) ∷
-    named 0x3361 (alpha Alpha3) ∷
-    named 0x3461 (alpha Alpha4) ∷
-    named 0x636C6970 (clip ClipRect ClipDrawing) ∷
-    named 0x69636C6970 (clip IClipRect IClipDrawing) ∷
-    named 0x6665 (ranged 0 255 Fe) ∷
-    named 0x62 weight ∷
-    named 0x69 (flag I) ∷
-    named 0x75 (flag U) ∷
-    named 0x73 (flag S) ∷
-    named 0x72 reset ∷
+    named "fad" fad ∷
+    named "fade" fade ∷
+    named "move" move ∷
+    named "frz" (float Frz) ∷
+    named "fr" (float Frz) ∷
+    named "frx" (float Frx) ∷
+    named "fry" (float Fry) ∷
+    named "pos" (pair Pos) ∷
+    named "org" (pair Org) ∷
+    named "blur" (float Blur) ∷
+    named "be" edge ∷
+    named "bord" (float Bord) ∷
+    named "xbord" (float Xbord) ∷
+    named "ybord" (float Ybord) ∷
+    named "shad" (float Shad) ∷
+    named "xshad" (float Xshad) ∷
+    named "yshad" (float Yshad) ∷
+    named "pbo" baseline ∷
+    named "p" (ranged 0 255 P) ∷
+    named "fax" (float Fax) ∷
+    named "fay" (float Fay) ∷
+    named "fscx" (float Fscx) ∷
+    named "fscy" (float Fscy) ∷
+    named "fs" (float Fs) ∷
+    named "fsp" (float Fsp) ∷
+    named "q" (ranged 0 3 Q) ∷
+    named "an" (ranged 1 9 An) ∷
+    named "a" (ranged 0 255 A) ∷
+    named "k" (beat Fill) ∷
+    named "K" (beat Sweep) ∷  -- \K alone keeps its case
+    named "kf" (beat Sweep) ∷
+    named "ko" (beat Outline) ∷
+    named "c" (colour Color1) ∷
+    named "1c" (colour Color1) ∷
+    named "2c" (colour Color2) ∷
+    named "3c" (colour Color3) ∷
+    named "4c" (colour Color4) ∷
+    named "alpha" (alpha Alpha) ∷
+    named "1a" (alpha Alpha1) ∷
+    named "2a" (alpha Alpha2) ∷
+    named "3a" (alpha Alpha3) ∷
+    named "4a" (alpha Alpha4) ∷
+    named "clip" (clip ClipRect ClipDrawing) ∷
+    named "iclip" (clip IClipRect IClipDrawing) ∷
+    named "fe" (ranged 0 255 Fe) ∷
+    named "b" weight ∷
+    named "i" (flag I) ∷
+    named "u" (flag U) ∷
+    named "s" (flag S) ∷
+    named "r" reset ∷
     []
 
 abbrev pub tKey : ℕ
-tKey = 0x74
+tKey = key "t"
 
 unfoldable pub lookup : ℕ → List Named → Shape
 lookup k [] = unknown
 lookup k (n ∷ l) = let r = lookup k l in pick (eqb k (n .key)) (n .shape) r
 
--- `to_ascii_lowercase`
-abbrev pub lower : ℕ → ℕ
-lower b = pick (within 65 90 b) (b + 32) b
-
--- n bytes from i on, in lower case, as digits to the base 256 behind a
-unfoldable pub key : List ℕ → ℕ → ℕ → ℕ → ℕ
-key s zero i a = a
-key s (suc n) i a = key s n (i + 1) (a * 256 + lower (getD s i 0))
+-- n bytes from i on, in lower case
+unfoldable pub lowered : List ℕ → ℕ → ℕ → List ℕ
+lowered s zero i = []
+lowered s (suc n) i = lower (getD s i 0) ∷ lowered s n (i + 1)
 
 -- the name from i to e; no tag's name has more than five bytes
 unfoldable pub keyAt : List ℕ → ℕ → ℕ → ℕ
-keyAt s i e = pick (leb (e - i) 5) (pick (eqb (e - i) 1) (pick (eqb (getD s i 0) 0x4B) 0x4B (key s 1 i 0)) (key s (e - i) i 0)) 0
+keyAt s i e =
+    let k = keyOf (lowered s (e - i) i) in
+    pick (leb (e - i) 5) (pick (eqb (e - i) 1) (pick (eqb (getD s i 0) (key "K")) (key "K") k) k) 0

@@ -6,18 +6,18 @@ use lib.Dec.{leb, ltb, eqb}
 use lib.IntN.{ℤ, pos, negsuc}
 use lib.Ieee.{Float, toSigned}
 use lib.ListN.{length, getD}
-use Rattle.scan.specs.Scan.{pick, trimStart, trimEnd}
-use Rattle.float.specs.Float.{zero as plusZero, maxZero, roundAway, roundByte, toWord}
+use Rattle.scan.specs.Scan.{pick, either, trimStart, trimEnd}
+use Rattle.float.specs.Float.{zero as plusZero, reach, maxZero, roundAway, roundByte, toWord}
 use Rattle.numeral.specs.Numeral.{F32, number, tooLong, f32At, I32, whole, i32At}
 use Rattle.numeral.specs.declared.Numeral.{Numeral}
 use Rattle.numeral.specs.declared.Numeral.the-variants.{No, TooLong, Word}
-use Rattle.lists.specs.Lists.{Part, parts}
+use Rattle.lists.specs.Lists.{Stretch, parts}
 use Rattle.colour.specs.Colour.{alphaAt, colourAt}
 use Rattle.colour.specs.declared.Colour.{Colour}
 use Rattle.colour.specs.declared.Colour.the-variants.{Rgb}
 use Rattle.tag.specs.Tag as Tag
 use Rattle.tag.specs.Tag.{AnimatedTag, absent, times, KaraokeKind, Fad, Fade, Move, Be, Pbo, B, R, Fn, Karaoke, plain, named}
-use Rattle.plain.specs.Names.{Shape, float, pair, ranged, flag, alpha, colour, clip, beat, fad, fade, move, edge, baseline, weight, reset, unknown, names, lookup, key, keyAt}
+use Rattle.plain.specs.Names.{Shape, float, pair, ranged, flag, alpha, colour, clip, beat, fad, fade, move, edge, baseline, weight, reset, unknown, names, lookup, keyOf, key, lowered, keyAt}
 
 -- what a tag gives: nothing, a numeral that is too long with its place, a tag, or a \fade whose times lie too far off
 pub data One : Type 0 where
@@ -37,11 +37,11 @@ mapF32 f (tooLong p) = long p
 mapF32 f (number x) = kept (f x)
 
 -- the f32 and the i32 of each part of a comma list
-unfoldable pub f32s : List ℕ → List Part → List F32
+unfoldable pub f32s : List ℕ → List Stretch → List F32
 f32s s [] = []
 f32s s (x ∷ l) = f32At s (x .from) (x .to) ∷ f32s s l
 
-unfoldable pub i32s : List ℕ → List Part → List I32
+unfoldable pub i32s : List ℕ → List Stretch → List I32
 i32s s [] = []
 i32s s (x ∷ l) = i32At s (x .from) (x .to) ∷ i32s s l
 
@@ -51,10 +51,11 @@ isNumber F32.none = false
 isNumber (tooLong p) = false
 isNumber (number x) = true
 
-abbrev pub floatOf : F32 → Float
-floatOf F32.none = plusZero
-floatOf (tooLong p) = plusZero
-floatOf (number x) = x
+-- a part's number, 0 where it has none
+abbrev pub orZero : F32 → Float
+orZero F32.none = plusZero
+orZero (tooLong p) = plusZero
+orZero (number x) = x
 
 unfoldable pub allFloats : List F32 → Bool
 allFloats [] = true
@@ -62,7 +63,7 @@ allFloats (x ∷ l) = let r = allFloats l in pick (isNumber x) r false
 
 unfoldable pub floatsIn : List F32 → List Float
 floatsIn [] = []
-floatsIn (x ∷ l) = floatOf x ∷ floatsIn l
+floatsIn (x ∷ l) = orZero x ∷ floatsIn l
 
 abbrev pub floats : List F32 → List Float
 floats l = pick (allFloats l) (floatsIn l) []
@@ -95,11 +96,11 @@ abbrev pub nthInt : List ℤ → ℕ → ℤ
 nthInt l n = getD l n (pos 0)
 
 -- 01, ground 3: the first numeral of a list that is too long comes before what the list makes
-unfoldable pub firstLong : List F32 → One → One
-firstLong [] o = o
-firstLong (F32.none ∷ l) o = firstLong l o
-firstLong (tooLong p ∷ l) o = long p
-firstLong (number x ∷ l) o = firstLong l o
+unfoldable pub unlessLong : List F32 → One → One
+unlessLong [] o = o
+unlessLong (F32.none ∷ l) o = unlessLong l o
+unlessLong (tooLong p ∷ l) o = long p
+unlessLong (number x ∷ l) o = unlessLong l o
 
 -- \pos, \org: two
 unfoldable pub pairOf : (Float → Float → AnimatedTag) → List Float → One
@@ -129,14 +130,14 @@ fadOf l = pick (leb 2 (length l)) (kept (Fad (notBelowZero (nthInt l 0)) (notBel
 
 -- 01, ground 4: a time beyond ±1,000,000,000
 abbrev pub isFar : ℤ → Bool
-isFar (pos n) = ltb 1000000000 n
-isFar (negsuc n) = leb 1000000000 n
+isFar (pos n) = ltb reach n
+isFar (negsuc n) = leb reach n
 
 -- \fade: the first seven of a list of at least seven
 unfoldable pub fadeOf : List ℤ → One
 fadeOf l =
     let x = Fade (byteOf (nthInt l 0)) (byteOf (nthInt l 1)) (byteOf (nthInt l 2)) (nthInt l 3) (nthInt l 4) (nthInt l 5) (nthInt l 6) in
-    let f = pick (isFar (nthInt l 3)) true (pick (isFar (nthInt l 4)) true (pick (isFar (nthInt l 5)) true (isFar (nthInt l 6)))) in
+    let f = either (isFar (nthInt l 3)) (either (isFar (nthInt l 4)) (either (isFar (nthInt l 5)) (isFar (nthInt l 6)))) in
     pick (leb 7 (length l)) (pick f (far x) (kept x)) no
 
 -- a whole number from low to high
@@ -175,7 +176,7 @@ unfoldable pub clipOf : (Float → Float → Float → Float → AnimatedTag) �
 clipOf f g l p q =
     let x = floats l in
     pick (eqb (length l) 4)
-    (firstLong l (pick (allFloats l) (kept (f (nth x 0) (nth x 1) (nth x 2) (nth x 3))) (kept (g (part p q)))))
+    (unlessLong l (pick (allFloats l) (kept (f (nth x 0) (nth x 1) (nth x 2) (nth x 3))) (kept (g (part p q)))))
     (kept (g (part p q)))
 
 -- \r: the trimmed parameter names a style, if there is any
@@ -192,7 +193,7 @@ beatOf k x = Karaoke k (toWord (roundAway (maxZero x)))
 -- the parameter from p to q by its shape
 unfoldable pub shaped : Shape → List ℕ → ℕ → ℕ → One
 shaped (float f) s p q = mapF32 f (f32At s p q)
-shaped (pair f) s p q = let l = f32s s (parts s p q) in firstLong l (pairOf f (floats l))
+shaped (pair f) s p q = let l = f32s s (parts s p q) in unlessLong l (pairOf f (floats l))
 shaped (ranged a b f) s p q = rangedOf a b f (i32At s p q)
 shaped (flag f) s p q = flagOf f s p q
 shaped (alpha f) s p q = mapAlpha f (alphaAt s p q)
@@ -201,7 +202,7 @@ shaped (clip f g) s p q = clipOf f g (f32s s (parts s p q)) p q
 shaped (beat k) s p q = mapF32 (beatOf k) (f32At s p q)
 shaped fad s p q = fadOf (ints (i32s s (parts s p q)))
 shaped fade s p q = fadeOf (ints (i32s s (parts s p q)))
-shaped move s p q = let l = f32s s (parts s p q) in firstLong l (moveOf (floats l))
+shaped move s p q = let l = f32s s (parts s p q) in unlessLong l (moveOf (floats l))
 shaped edge s p q = mapF32 (λ x. Be (roundByte x)) (f32At s p q)
 shaped baseline s p q = mapF32 (λ x. Pbo (roundAway x)) (f32At s p q)
 shaped weight s p q = weightOf (i32At s p q)
@@ -210,11 +211,11 @@ shaped unknown s p q = no
 
 -- \fn: a name that begins with fn and goes on
 unfoldable pub isFn : List ℕ → ℕ → ℕ → Bool
-isFn s i m = pick (leb 3 (m - i)) (eqb (key s 2 i 0) 0x666E) false
+isFn s i m = pick (leb 3 (m - i)) (eqb (keyOf (lowered s 2 i)) (key "fn")) false
 
 -- \r: a name that begins with r and goes on, with an empty parameter
 unfoldable pub isNamedReset : List ℕ → ℕ → ℕ → ℕ → ℕ → Bool
-isNamedReset s i m p q = pick (leb 2 (m - i)) (pick (eqb (key s 1 i 0) 0x72) (leb q p) false) false
+isNamedReset s i m p q = pick (leb 2 (m - i)) (pick (eqb (keyOf (lowered s 1 i)) (key "r")) (leb q p) false) false
 
 -- one tag, \t apart
 unfoldable pub plainAt : List ℕ → ℕ → ℕ → ℕ → ℕ → One

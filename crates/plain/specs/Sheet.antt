@@ -7,15 +7,14 @@ use Prim.Native.String.{String}
 use lib.IntN.{pos, negsuc, negℤ}
 use lib.Ieee.{Float, fin, round, lt, toSigned}
 use lib.ListN.{length}
-use Rattle.scan.specs.Scan.{span, back, skip, skipBack, blankAt, blankBefore}
+use Rattle.scan.specs.Scan.{bytes, span, back, skip, skipBack, blankAt, blankBefore}
 use Rattle.float.specs.Float.{maxZero, roundAway, roundByte}
 use Rattle.numeral.specs.Numeral.{value, wholeNumber, i32Of, hexAt, splitAt, exponentAt, floatOf, f32Of}
-use Rattle.numeral.specs.Sheet.{bytes}
 use Rattle.lists.specs.Lists.{split}
 use Rattle.colour.specs.Colour.{trimmed, ampersands, zeroXAt, digits, alphaAt, colourAt}
 use Rattle.tag.specs.Tag.{Part, Fad, Fade, Pos, Move, absent, times, Fs, Color1, ClipRect, ClipDrawing, Be, Alpha, An, Fn, R, plain, named, B, I, Karaoke, Sweep, Pbo}
-use Rattle.plain.specs.Names.{names, lookup, key, keyAt}
-use Rattle.plain.specs.Plain.{One, no, long, kept, far, part, f32s, i32s, allFloats, floatsIn, allInts, intsIn, firstLong, pairOf, moveOf, fadOf, fadeOf, rangedOf, weightOf, flagOf, clipOf, resetOf, shaped, isFn, isNamedReset, plainAt}
+use Rattle.plain.specs.Names.{names, lookup, lowered, keyAt}
+use Rattle.plain.specs.Plain.{One, no, long, kept, far, part, f32s, i32s, allFloats, floatsIn, allInts, intsIn, unlessLong, pairOf, moveOf, fadOf, fadeOf, rangedOf, weightOf, flagOf, clipOf, resetOf, shaped, isFn, isNamedReset, plainAt}
 
 -- a name, its parameter, and what they give
 abbrev Row : Type 0
@@ -48,7 +47,7 @@ pub floats : Gives (
     ("K", "5", kept (Karaoke Sweep 5)) ∷
     ("kf", "-5", kept (Karaoke Sweep 0)) ∷
     [])
-unfolding span skip skipBack blankAt blankBefore value splitAt exponentAt floatOf f32Of round lt maxZero roundAway roundByte names lookup key keyAt isFn isNamedReset shaped plainAt
+unfolding span skip skipBack blankAt blankBefore value splitAt exponentAt floatOf f32Of round lt maxZero roundAway roundByte names lookup lowered keyAt isFn isNamedReset shaped plainAt
 floats = refl
 
 -- comma lists: every part is looked at for a numeral that is too long, \clip's only where there are four
@@ -73,7 +72,7 @@ pub lists : Gives (
     ("fade", "256,-1,7,1000000000,-1000000000,0,0", kept (Fade 255 0 7 (pos 1000000000) (negℤ (pos 1000000000)) (pos 0) (pos 0))) ∷
     ("fade", "0,0,0,0,0,0,-1000000001", far (Fade 0 0 0 (pos 0) (pos 0) (pos 0) (negℤ (pos 1000000001)))) ∷
     [])
-unfolding span skip skipBack blankAt blankBefore value wholeNumber i32Of splitAt exponentAt floatOf f32Of round toSigned split f32s i32s allFloats floatsIn allInts intsIn firstLong pairOf moveOf fadOf fadeOf clipOf part names lookup key keyAt isFn isNamedReset shaped plainAt
+unfolding span skip skipBack blankAt blankBefore value wholeNumber i32Of splitAt exponentAt floatOf f32Of round toSigned split f32s i32s allFloats floatsIn allInts intsIn unlessLong pairOf moveOf fadOf fadeOf clipOf part names lookup lowered keyAt isFn isNamedReset shaped plainAt
 lists = refl
 
 pub words : Gives (
@@ -90,7 +89,7 @@ pub words : Gives (
     ("c", "&H0x0xFF&", kept (Color1 (record { red = 255; green = 0; blue = 0 }))) ∷
     ("1c", "&H010203&", kept (Color1 (record { red = 3; green = 2; blue = 1 }))) ∷
     [])
-unfolding span back skip skipBack blankAt blankBefore value wholeNumber i32Of hexAt trimmed ampersands zeroXAt digits alphaAt colourAt rangedOf weightOf flagOf names lookup key keyAt isFn isNamedReset shaped plainAt
+unfolding span back skip skipBack blankAt blankBefore value wholeNumber i32Of hexAt trimmed ampersands zeroXAt digits alphaAt colourAt rangedOf weightOf flagOf names lookup lowered keyAt isFn isNamedReset shaped plainAt
 words = refl
 
 -- \fn and \r: parts of the text
@@ -104,5 +103,5 @@ pub parts : Gives (
     ("rAlt", "", kept (R (named (from 1 3)))) ∷
     ("rAlt", "x", no) ∷
     [])
-unfolding skip skipBack blankAt blankBefore part resetOf names lookup key keyAt isFn isNamedReset shaped plainAt
+unfolding skip skipBack blankAt blankBefore part resetOf names lookup lowered keyAt isFn isNamedReset shaped plainAt
 parts = refl

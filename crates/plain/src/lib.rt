@@ -3,9 +3,9 @@ ghost use mathlib.Core.Path.{_≡_};
 ghost use Prim.Native.Nat.{_+_, _-_, _^_, _≤_, _<_};
 ghost use lib.ListN.{length};
 ghost use Rattle.tag.specs.Table.{rec};
-ghost use Rattle.plain.specs.Names.{key as keyOf, keyAt, lookup, names};
+ghost use Rattle.plain.specs.Names.{keyOf, lowered, keyAt, lookup, names};
 ghost use Rattle.plain.specs.Plain.{isFn, isNamedReset, part, plainAt};
-ghost use Rattle.plain.specs.Coded.{codeOf, keepWord, beatWord, baselineWord, edgeWord, cutWord, longOr, pairTag, moveTag, notBelowZeroWord, byteWord, farWord, fadTag, fadeTag, rangedTag, weightTag, flagTag, alphaTag, colourTag, clipTag, resetTag, fnTag, partOf, shapedTag, keptOf};
+ghost use Rattle.plain.specs.Inner.{codeOf, keepWord, beatWord, baselineWord, edgeWord, cutWord, longOr, pairTag, moveTag, notBelowZeroWord, byteWord, farWord, fadTag, fadeTag, rangedTag, weightTag, flagTag, alphaTag, colourTag, clipTag, resetTag, fnTag, partOf, shapedTag, keptOf};
 
 // What a tag's parameter is, with the kind of the record that it makes.
 pub enum Shape {
@@ -36,7 +36,7 @@ pub enum Kept {
 }
 
 // A part of the text as two words of a record.
-pub struct Part {
+pub struct PartWords {
     pub offset: u32,
     pub size: u32,
 }
@@ -100,27 +100,15 @@ fn shape_of(key: u64) -> Shape
     }
 }
 
-fn lower(b: u8) -> u64
-    ensures { λ r. ⌜ r ≡ Rattle.plain.specs.Names.lower b ⌝ }
-{
-    if b < 65 {
-        return b as u64;
-    }
-    if b <= 90 {
-        return (b as u64) + 32;
-    }
-    b as u64
-}
-
 // The bytes between two places in lower case, as digits to the base 256.
 fn key_of(text: &[u8], from: usize, to: usize) -> u64
     requires { ⌜ (from ≤ to) × (to ≤ from + 5) × (to ≤ length (now text)) ⌝ }
-    ensures { λ r. ⌜ r ≡ keyOf (now (text .entry)) (to - from) from 0 ⌝ }
+    ensures { λ r. ⌜ r ≡ keyOf (lowered (now (text .entry)) (to - from) from) ⌝ }
 {
     let mut i = from;
     let mut a: u64 = 0;
     while i < to {
-        a = a * 256 + lower(text[i]);
+        a = a * 256 + (scan::lower(text[i]) as u64);
         i += 1;
     }
     a
@@ -299,12 +287,6 @@ fn fad_of(n: lists::Numbers) -> Kept
     Kept::No
 }
 
-fn either(a: bool, b: bool) -> bool
-    ensures { λ r. ⌜ r ≡ Rattle.plain.specs.Coded.either a b ⌝ }
-{
-    if a { true } else { b }
-}
-
 fn fade_of(n: lists::Numbers) -> Kept
     ensures { λ r. ⌜ r ≡ fadeTag (n .all) (n .count) (n .words) ⌝ }
 {
@@ -321,9 +303,9 @@ fn fade_of(n: lists::Numbers) -> Kept
                 w[5],
                 w[6],
             );
-            if either(
+            if scan::either(
                 is_far(w[3]),
-                either(is_far(w[4]), either(is_far(w[5]), is_far(w[6]))),
+                scan::either(is_far(w[4]), scan::either(is_far(w[5]), is_far(w[6]))),
             ) {
                 return Kept::Far(x);
             }
@@ -405,17 +387,17 @@ fn colour_of(kind: u32, c: colour::Colour) -> Kept
 }
 
 // The part between two places as words; an empty one is 0 and 0.
-fn part_of(p: usize, q: usize) -> Part
+fn part_of(p: usize, q: usize) -> PartWords
     requires { ⌜ q < 2 ^ 32 ⌝ }
     ensures { λ r. ⌜ r ≡ partOf (part p q) ⌝ }
 {
     if p < q {
-        return Part {
+        return PartWords {
             offset: p as u32,
             size: (q - p) as u32,
         };
     }
-    Part { offset: 0, size: 0 }
+    PartWords { offset: 0, size: 0 }
 }
 
 fn clip_of(kind: u32, drawn: u32, n: lists::Numbers, p: usize, q: usize) -> Kept

@@ -26,8 +26,8 @@ use Rattle.tag.specs.Tag.{AnimatedTag, KaraokeKind, Fill, Sweep, Outline, Fad, 
 use Rattle.tag.specs.Decode.{decoders, decodeOne}
 use Rattle.tag.specs.Range.{range, rows, inRange}
 use Rattle.plain.specs.Names.{Shape, float, pair, ranged, flag, alpha, colour, clip, beat, fad, fade, move, edge, baseline, weight, reset, unknown, names, lookup, keyAt}
-use Rattle.plain.specs.Plain.{One, no, long, kept, far, part, mapF32, mapAlpha, mapColour, allFloats, floats, nth, nthInt, firstLong, pairOf, moveOf, notBelowZero, byteOf, fadOf, isFar, fadeOf, rangedOf, weightOf, flagOf, clipOf, resetOf, beatOf, shaped, isFn, isNamedReset, plainAt}
-use Rattle.plain.specs.Coded.{kindOf}
+use Rattle.plain.specs.Plain.{One, no, long, kept, far, part, mapF32, mapAlpha, mapColour, allFloats, floats, nth, nthInt, unlessLong, pairOf, moveOf, notBelowZero, byteOf, fadOf, isFar, fadeOf, rangedOf, weightOf, flagOf, clipOf, resetOf, beatOf, shaped, isFn, isNamedReset, plainAt}
+use Rattle.plain.specs.Inner.{kindOf}
 use Rattle.plain.proofs.Numbers.{Small}
 use Rattle.plain.proofs.Every.{find}
 use Rattle.scan.proofs.Bounds.{tested, trim-end-high}
@@ -136,8 +136,8 @@ module _ (s : List ℕ) (top p q : ℕ) (order : p ≤ q) (short : q ≤ mostByt
 
   -- ---- a comma list
 
-  fine-long : {o : One} → Good o → {l : List F32} → All (F32In s top p q) l → Good (firstLong l o)
-  unfolding firstLong
+  fine-long : {o : One} → Good o → {l : List F32} → All (F32In s top p q) l → Good (unlessLong l o)
+  unfolding unlessLong
   fine-long g all = g
   fine-long g (more no-numeral l) = fine-long g l
   fine-long g (more (too-long k a b u) l) = late k a b u

@@ -9,10 +9,10 @@ use Rattle.scan.specs.Scan.{digitOf, inClass}
 use Rattle.scan.specs.declared.Class.the-variants.{Digit, Not, Either}
 use Rattle.numeral.specs.declared.Decimal.{Decimal}
 use Rattle.numeral.specs.Numeral.{isDigit, isSign, isMinus, isPlus, isPoint, isE, value, wholeNumber, i32Of, i32At, hexAt, splitAt, exponentAt, F32, tooLong, number, floatOf, f32Of, f32At}
-use Rattle.colour.specs.declared.Part as Colour
+use Rattle.colour.specs.declared.Stretch as Colour
 use Rattle.colour.specs.Colour.{isAmpersand, trimmed, ampersands, zeroXAt, digits, alphaAt, colourAt}
 use Rattle.colour.proofs.Laws.{zero-x-fits}
-use Rattle.lists.specs.Lists.{Part, commaTo, split, parts}
+use Rattle.lists.specs.Lists.{Stretch, commaTo, split, parts}
 use Rattle.read.proofs.MovedScan.{Window, On, either, if-le, if-lt, next, gap, ltb-on, eqb-on, byte, span-on, back-on, skip-on, past-on, trim-start-on, trim-end-on}
 
 -- a numeral, k bytes further on
@@ -29,14 +29,14 @@ record Splits (k n : ℕ) (d′ d : Decimal) : Type 0 where
   end : On k n (d′ .end) (d .end)
 
 -- a part that is left of a text
-record Left (k n : ℕ) (x′ x : Colour.Part) : Type 0 where
+record Left (k n : ℕ) (x′ x : Colour.Stretch) : Type 0 where
   from : On k n (x′ .from) (x .from)
   to : On k n (x′ .to) (x .to)
 
 -- the parts of a comma list
-pub data Parts (k n : ℕ) : List Part → List Part → Type 0 where
+pub data Parts (k n : ℕ) : List Stretch → List Stretch → Type 0 where
   none : Parts k n [] []
-  more : {x′ x : Part} {l′ l : List Part} → On k n (x′ .from) (x .from) → On k n (x′ .to) (x .to) → Parts k n l′ l → Parts k n (x′ ∷ l′) (x ∷ l)
+  more : {x′ x : Stretch} {l′ l : List Stretch} → On k n (x′ .from) (x .from) → On k n (x′ .to) (x .to) → Parts k n l′ l → Parts k n (x′ ∷ l′) (x ∷ l)
 
 module _ {w s : List ℕ} {k n : ℕ} (v : Window w s k n) where
   value-on : (radix m : ℕ) {i′ i : ℕ} (a : ℕ) → On k n i′ i → i + m ≤ n → value radix w m i′ a ≡ value radix s m i a

@@ -2,7 +2,7 @@
 use mathlib.Core.Path.{_≡_, refl, ap}
 use mathlib.Core.List.{List, [], _∷_, map}
 use mathlib.Core.Bool.{Bool, true, false}
-use Prim.Native.Nat.{ℕ, zero, suc, _+_, _-_, _*_, _≤_}
+use Prim.Native.Nat.{ℕ, zero, suc, _+_, _-_, _≤_}
 use native.Mathlib.Omega.{arith}
 use lib.ListN.{length, getD, length-map}
 use lib.Dec.{ltb, leb, eqb}
@@ -14,14 +14,14 @@ use Rattle.float.specs.Float.{roundAway, roundByte}
 use Rattle.numeral.specs.Numeral.{F32, tooLong, number, f32At, I32, whole, i32At}
 use Rattle.numeral.specs.declared.Numeral.{Numeral}
 use Rattle.numeral.specs.declared.Numeral.the-variants.{No, TooLong, Word}
-use Rattle.lists.specs.Lists.{Part, parts}
+use Rattle.lists.specs.Lists.{Stretch, parts}
 use Rattle.colour.specs.Colour.{alphaAt, colourAt}
 use Rattle.colour.specs.declared.Colour as C
 use Rattle.colour.specs.declared.Colour.the-variants.{Rgb}
 use Rattle.tag.specs.Tag as Tag
 use Rattle.tag.specs.Tag.{AnimatedTag, Be, Pbo, R}
-use Rattle.plain.specs.Names.{Shape, float, pair, ranged, flag, alpha, colour, clip, beat, fad, fade, move, edge, baseline, weight, reset, unknown, names, lookup, lower, key, keyAt}
-use Rattle.plain.specs.Plain.{One, no, long, kept, far, part, mapF32, f32s, i32s, allFloats, floatsIn, floats, ints, nth, firstLong, pairOf, moveOf, fadOf, fadeOf, isFar, rangedOf, weightOf, flagOf, mapAlpha, mapColour, clipOf, resetOf, beatOf, shaped, isFn, isNamedReset, plainAt, nthInt}
+use Rattle.plain.specs.Names.{Shape, float, pair, ranged, flag, alpha, colour, clip, beat, fad, fade, move, edge, baseline, weight, reset, unknown, names, lookup, lowered, keyAt}
+use Rattle.plain.specs.Plain.{One, no, long, kept, far, part, mapF32, f32s, i32s, allFloats, floatsIn, floats, ints, nth, unlessLong, pairOf, moveOf, fadOf, fadeOf, isFar, rangedOf, weightOf, flagOf, mapAlpha, mapColour, clipOf, resetOf, beatOf, shaped, isFn, isNamedReset, plainAt, nthInt}
 use Rattle.plain.proofs.Every.{Every, gather, find}
 use Rattle.read.specs.Moved.{movedPart, movedTag}
 use Rattle.read.proofs.MovedScan.{Window, On, either, if-eq, if-le, if-lt, next, gap, ltb-on, leb-on, byte, trim-start-on, trim-end-on}
@@ -93,8 +93,8 @@ module _ (k : ℕ) where
   in-moved (tooLong p ∷ l) = rw (in-moved l)
   in-moved (number x ∷ l) = rw (in-moved l)
 
-  move-long : (l : List F32) {o′ : One} (o : One) → Moves o′ o → Moves (firstLong (map (movedF32 k) l) o′) (firstLong l o)
-  unfolding firstLong
+  move-long : (l : List F32) {o′ : One} (o : One) → Moves o′ o → Moves (unlessLong (map (movedF32 k) l) o′) (unlessLong l o)
+  unfolding unlessLong
   move-long [] o h = h
   move-long (F32.none ∷ l) o h = move-long l o h
   move-long (tooLong p ∷ l) o h = refl
@@ -146,12 +146,12 @@ part-on {k} {n} {p′} {p} {q′} {q} h g =
 -- ---- a parameter, from p to q
 
 module _ {w s : List ℕ} {k n : ℕ} (v : Window w s k n) where
-  f32s-on : {l′ l : List Part} → Parts k n l′ l → f32s w l′ ≡ map (movedF32 k) (f32s s l)
+  f32s-on : {l′ l : List Stretch} → Parts k n l′ l → f32s w l′ ≡ map (movedF32 k) (f32s s l)
   unfolding f32s
   f32s-on none = refl
   f32s-on (more h g r) = rw (f32-on v h g, f32s-on r)
 
-  i32s-on : {l′ l : List Part} → Parts k n l′ l → i32s w l′ ≡ i32s s l
+  i32s-on : {l′ l : List Stretch} → Parts k n l′ l → i32s w l′ ≡ i32s s l
   unfolding i32s
   i32s-on none = refl
   i32s-on (more h g r) = rw (i32-on v h g, i32s-on r)
@@ -163,7 +163,7 @@ module _ {w s : List ℕ} {k n : ℕ} (v : Window w s k n) where
     ints-on : i32s w (parts w p′ q′) ≡ i32s s (parts s p q)
     ints-on = i32s-on (parts-on v h g)
 
-    float-list-on : (f : List Float → One) → ((l : List Float) → Stays k (f l)) → Moves k (firstLong (f32s w (parts w p′ q′)) (f (floats (f32s w (parts w p′ q′))))) (firstLong (f32s s (parts s p q)) (f (floats (f32s s (parts s p q)))))
+    float-list-on : (f : List Float → One) → ((l : List Float) → Stays k (f l)) → Moves k (unlessLong (f32s w (parts w p′ q′)) (f (floats (f32s w (parts w p′ q′))))) (unlessLong (f32s s (parts s p q)) (f (floats (f32s s (parts s p q)))))
     float-list-on f e =
         let l = f32s s (parts s p q) in
         rw (floats-on, all-moved k l, in-moved k l) (move-long k l _ (e (floats l)))
@@ -216,26 +216,26 @@ module _ {w s : List ℕ} {k n : ℕ} (v : Window w s k n) where
 
   -- ---- a name, from i to m
 
-  key-on : (m : ℕ) {i′ i : ℕ} (a : ℕ) → On k n i′ i → i + m ≤ n → key w m i′ a ≡ key s m i a
-  unfolding key
-  key-on zero a h l = refl
-  key-on (suc m) {i′} {i} a h l = rw (byte v h (omega arith)) (key-on m (a * 256 + lower (getD s i 0)) (next h (omega arith)) (omega arith))
+  lowered-on : (m : ℕ) {i′ i : ℕ} → On k n i′ i → i + m ≤ n → lowered w m i′ ≡ lowered s m i
+  unfolding lowered
+  lowered-on zero h l = refl
+  lowered-on (suc m) {i′} {i} h l = rw (byte v h (omega arith), lowered-on m (next h (omega arith)) (omega arith))
 
   module _ {i′ i m′ m : ℕ} (h : On k n i′ i) (g : On k n m′ m) where
     pub key-at-on : keyAt w i′ m′ ≡ keyAt s i m
     unfolding keyAt
     key-at-on =
-        rw (gap h g, key-on (m - i) 0 h (omega arith))
-        (either _≡_ (leb (m - i) 5) (if-eq _≡_ (m - i) 1 (λ l. rw (byte v h (omega arith), key-on 1 0 h (omega arith))) refl) refl)
+        rw (gap h g, lowered-on (m - i) h (omega arith))
+        (either _≡_ (leb (m - i) 5) (if-eq _≡_ (m - i) 1 (λ l. rw (byte v h (omega arith))) refl) refl)
 
     is-fn-on : isFn w i′ m′ ≡ isFn s i m
     unfolding isFn
-    is-fn-on = rw (gap h g) (if-le _≡_ 3 (m - i) (λ l. rw (key-on 2 0 h (omega arith))) refl)
+    is-fn-on = rw (gap h g) (if-le _≡_ 3 (m - i) (λ l. rw (lowered-on 2 h (omega arith))) refl)
 
     module _ {p′ p q′ q : ℕ} (c : On k n p′ p) (d : On k n q′ q) where
       is-named-reset-on : isNamedReset w i′ m′ p′ q′ ≡ isNamedReset s i m p q
       unfolding isNamedReset
-      is-named-reset-on = rw (gap h g, leb-on d c) (if-le _≡_ 2 (m - i) (λ l. rw (key-on 1 0 h (omega arith))) refl)
+      is-named-reset-on = rw (gap h g, leb-on d c) (if-le _≡_ 2 (m - i) (λ l. rw (lowered-on 1 h (omega arith))) refl)
 
       -- one tag, \t apart
       pub plain-on : plainAt w i′ m′ p′ q′ ≡ movedOne k (plainAt s i m p q)

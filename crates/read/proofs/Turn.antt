@@ -22,8 +22,8 @@ use Rattle.tag.specs.declared.Record.{Record}
 use Rattle.tag.proofs.Table.{length-laid, laid-t, laid-step, rest-is, rest-back}
 use Rattle.tag.specs.Tag.{T, Tags, and, count}
 use Rattle.tag.proofs.Tags.{encode-append, count-none, count-and, count-length, count-single, count-append}
-use Rattle.plain.specs.Plain.{One, no, long, kept, far, plainAt, floatOf, timeOf}
-use Rattle.plain.specs.Coded.{keptOf, cutWord}
+use Rattle.plain.specs.Plain.{One, no, long, kept, far, plainAt, orZero, timeOf}
+use Rattle.plain.specs.Inner.{keptOf, cutWord}
 use Rattle.plain.specs.declared.Kept.{Kept}
 use Rattle.plain.proofs.Numbers.{Back, f32-back}
 use Rattle.plain.proofs.Gives.{Single}
@@ -57,7 +57,7 @@ pub data Backs : List Float → Type 0 where
   none : Backs []
   more : {x : Float} {l : List Float} → Back x → Backs l → Backs (x ∷ l)
 
-head-backs : (f : F32) (i q k b : ℕ) (u : Peel) → Back (floatOf f) → Backs (u .heads) → Backs (peelHead f i q k b u .heads)
+head-backs : (f : F32) (i q k b : ℕ) (u : Peel) → Back (orZero f) → Backs (u .heads) → Backs (peelHead f i q k b u .heads)
 head-backs F32.none i q k b u e g = none
 head-backs (tooLong p) i q k b u e g = none
 head-backs (number x) i q k b u e g =

@@ -23,16 +23,15 @@ use Rattle.numeral.proofs.Reach.{Bounded}
 use Rattle.survey.specs.Survey.{Unplain, isStop}
 use Rattle.survey.proofs.Laws.{unplain-wider}
 use Rattle.survey.proofs.Long.{Ends, far-unplain}
-use Rattle.lists.specs.Lists as Lists
-use Rattle.lists.specs.Lists.{commaTo, split, parts}
+use Rattle.lists.specs.Lists.{Stretch, commaTo, split, parts}
 use Rattle.tag.specs.Tag as Tag
 use Rattle.tag.specs.Tag.{AnimatedTag, none, inside}
 use Rattle.tag.specs.Table.{head, bits, flagWord}
 use Rattle.tag.specs.Range as Range
 use Rattle.tag.specs.Range.{WordClass, range, wordFits, partFits, rows, inRange}
 use Rattle.plain.specs.Names.{Shape, float, pair, ranged, flag, alpha, colour, clip, beat, fad, fade, move, edge, baseline, weight, reset, unknown, names}
-use Rattle.plain.specs.Plain.{part, floatOf, f32s, i32s, allFloats, floatsIn, floats, allInts, intOf, intsIn, ints, nth, nthInt, timeOf, notBelowZero, isFar}
-use Rattle.plain.specs.Coded.{kindOf}
+use Rattle.plain.specs.Plain.{part, orZero, f32s, i32s, allFloats, floatsIn, floats, allInts, intOf, intsIn, ints, nth, nthInt, timeOf, notBelowZero, isFar}
+use Rattle.plain.specs.Inner.{kindOf}
 use Rattle.float.proofs.Words.{ofWord-toWord}
 use Rattle.tag.specs.Decode.{flagOf, decoders, decodeOne}
 use Rattle.tag.proofs.Decoding.{Back}
@@ -110,7 +109,7 @@ zero-bounded : Bounded plusZero
 unfolding inReach toBits ofBits
 zero-bounded = record { reach = tt; word = lit< tt; back = refl }
 
-bounded-of : {s : List ℕ} {top p q : ℕ} {x : F32} → F32In s top p q x → Bounded (floatOf x)
+bounded-of : {s : List ℕ} {top p q : ℕ} {x : F32} → F32In s top p q x → Bounded (orZero x)
 bounded-of no-numeral = zero-bounded
 bounded-of (too-long k a b u) = zero-bounded
 bounded-of (a-number b) = b
@@ -120,7 +119,7 @@ unfolding isStop
 comma-stops = refl
 
 module _ (s : List ℕ) where
-  all-bounded : (l : List Lists.Part) (n : ℕ) → Bounded (nth (floatsIn (f32s s l)) n)
+  all-bounded : (l : List Stretch) (n : ℕ) → Bounded (nth (floatsIn (f32s s l)) n)
   unfolding f32s floatsIn
   all-bounded [] n = zero-bounded
   all-bounded (x ∷ l) zero = bounded-of (f32-in s (x .to) (x .from) (x .to) (le-refl (x .to)) (inl refl))
@@ -134,7 +133,7 @@ module _ (s : List ℕ) where
       let low : p ≤ commaTo s p q = span-low (inClass (Not 44)) s (q - p) p in
       let high : commaTo s p q ≤ q = span-to-high (inClass (Not 44)) s p q h in
       let ends = span-ends (inClass (Not 44)) s top p q (not-stops 44 comma-stops) h f in
-      tested (λ (l : List Lists.Part). All (F32In s top p q) (f32s s l)) c q
+      tested (λ (l : List Stretch). All (F32In s top p q) (f32s s l)) c q
       (λ (k : c < q). more (f32-wider (le-refl p) high (f32-in s top p c (le-trans high g) ends)) (all-map (λ (x : F32) (y : F32In s top (c + 1) q x). f32-wider (omega arith) (le-refl q) y) (parts-in top q n (c + 1) (omega arith) g f)))
       (λ (k : q ≤ c). more (f32-wider (le-refl p) high (f32-in s top p c (le-trans high g) ends)) all)
 
@@ -176,7 +175,7 @@ module _ (s : List ℕ) where
       let c = commaTo s p q in
       let low : p ≤ commaTo s p q = span-low (inClass (Not 44)) s (q - p) p in
       let high : commaTo s p q ≤ q = span-to-high (inClass (Not 44)) s p q h in
-      tested (λ (l : List Lists.Part). Near p q (nthInt (intsIn (i32s s l)) k)) c q
+      tested (λ (l : List Stretch). Near p q (nthInt (intsIn (i32s s l)) k)) c q
       (λ (g : c < q). first c k low high (intsIn (i32s s (split s q n (c + 1)))) (λ j. wider (nthInt (intsIn (i32s s (split s q n (c + 1)))) j) (all-near q n (c + 1) j (omega arith))))
       (λ (g : q ≤ c). first c k low high [] (λ j. near-zero p q))
     where

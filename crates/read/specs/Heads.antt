@@ -7,7 +7,7 @@ use lib.Ieee.{Float}
 use Rattle.scan.specs.Scan.{pick}
 use Rattle.tag.specs.Table.{rec, bits}
 use Rattle.tag.specs.declared.Record.{Record}
-use Rattle.plain.specs.Coded.{cutWord}
+use Rattle.plain.specs.Inner.{cutWord}
 use Rattle.read.specs.declared.Heads.{Heads}
 use Rattle.read.specs.declared.Peeled.{Peeled}
 use Rattle.read.specs.Block.{Peel}

@@ -5,9 +5,8 @@ use Prim.Native.Nat.{ℕ}
 use lib.ListN.{replicate}
 use Prim.Native.String.{String}
 use lib.Ieee.{round, toBits, toSigned}
-use Rattle.scan.specs.Scan.{span, back, skip, skipBack, blankAt, blankBefore, closing}
+use Rattle.scan.specs.Scan.{bytes, span, back, skip, skipBack, blankAt, blankBefore, closing}
 use Rattle.float.specs.Float.{maxZero, roundAway, roundByte}
-use Rattle.numeral.specs.Sheet.{bytes}
 use Rattle.numeral.specs.Numeral.{value, wholeNumber, i32Of, hexAt, splitAt, exponentAt, floatOf, f32Of}
 use Rattle.colour.specs.Colour.{trimmed, ampersands, zeroXAt, digits, alphaAt, colourAt}
 use Rattle.lists.specs.Lists.{split}
@@ -15,8 +14,8 @@ use Rattle.refusal.specs.declared.Refusal.the-variants.{TextTooLong, NotAscii, 
 use Rattle.tag.specs.declared.Record.{Record}
 use Rattle.tag.specs.Tag.{append, count}
 use Rattle.tag.specs.Table.{rec, records, encode}
-use Rattle.plain.specs.Names.{names, lookup, key, keyAt}
-use Rattle.plain.specs.Plain.{part, f32s, i32s, allFloats, floatsIn, allInts, intsIn, firstLong, pairOf, moveOf, fadOf, fadeOf, rangedOf, weightOf, flagOf, clipOf, resetOf, shaped, isFn, isNamedReset, plainAt}
+use Rattle.plain.specs.Names.{names, lookup, lowered, keyAt}
+use Rattle.plain.specs.Plain.{part, f32s, i32s, allFloats, floatsIn, allInts, intsIn, unlessLong, pairOf, moveOf, fadOf, fadeOf, rangedOf, weightOf, flagOf, clipOf, resetOf, shaped, isFn, isNamedReset, plainAt}
 use Rattle.read.specs.declared.Reading.{Reading}
 use Rattle.read.specs.declared.Reading.the-variants.{Read, Refused}
 use Rattle.read.specs.Block.{paramAt, peel, tagAt, walk, parse}
@@ -59,7 +58,7 @@ pub tables : Gives recordsOf (
     ("\\fs(nan)", []) ∷
     ("\\\\\\i1", rec 43 1 0 0 0 0 0 0 ∷ []) ∷
     [])
-unfolding round toBits toSigned span back skip skipBack blankAt blankBefore closing maxZero roundAway roundByte value wholeNumber i32Of hexAt splitAt exponentAt floatOf f32Of trimmed ampersands zeroXAt digits alphaAt colourAt split append records encode count names lookup key keyAt part f32s i32s allFloats floatsIn allInts intsIn firstLong pairOf moveOf fadOf fadeOf rangedOf weightOf flagOf clipOf resetOf shaped isFn isNamedReset plainAt paramAt peel tagAt walk parse
+unfolding round toBits toSigned span back skip skipBack blankAt blankBefore closing maxZero roundAway roundByte value wholeNumber i32Of hexAt splitAt exponentAt floatOf f32Of trimmed ampersands zeroXAt digits alphaAt colourAt split append records encode count names lookup lowered keyAt part f32s i32s allFloats floatsIn allInts intsIn unlessLong pairOf moveOf fadOf fadeOf rangedOf weightOf flagOf clipOf resetOf shaped isFn isNamedReset plainAt paramAt peel tagAt walk parse
 tables = refl
 
 pub raw : Gives rawRecordsOf (
@@ -67,7 +66,7 @@ pub raw : Gives rawRecordsOf (
     ("{\\rAlt}", rec 41 1 3 3 0 0 0 0 ∷ []) ∷
     ("{{\\fnArial}}", rec 39 5 5 10 1 0 0 0 ∷ []) ∷
     [])
-unfolding round toBits toSigned span back skip skipBack blankAt blankBefore closing maxZero roundAway roundByte value wholeNumber i32Of hexAt splitAt exponentAt floatOf f32Of trimmed ampersands zeroXAt digits alphaAt colourAt split append records encode count names lookup key keyAt part f32s i32s allFloats floatsIn allInts intsIn firstLong pairOf moveOf fadOf fadeOf rangedOf weightOf flagOf clipOf resetOf shaped isFn isNamedReset plainAt paramAt peel tagAt walk parse lessBraces
+unfolding round toBits toSigned span back skip skipBack blankAt blankBefore closing maxZero roundAway roundByte value wholeNumber i32Of hexAt splitAt exponentAt floatOf f32Of trimmed ampersands zeroXAt digits alphaAt colourAt split append records encode count names lookup lowered keyAt part f32s i32s allFloats floatsIn allInts intsIn unlessLong pairOf moveOf fadOf fadeOf rangedOf weightOf flagOf clipOf resetOf shaped isFn isNamedReset plainAt paramAt peel tagAt walk parse lessBraces
 raw = refl
 
 pub answers : Gives answerOf (
@@ -85,7 +84,7 @@ pub answers : Gives answerOf (
     ("\\i1\\fade(0,0,0,0,0,0,1000000001)", Refused (FadeTooFar 3)) ∷
     ("\\fade(0,0,0,-1000000000,0,0,1000000000)", Read 1) ∷
     [])
-unfolding round toBits toSigned span back skip skipBack blankAt blankBefore closing maxZero roundAway roundByte value wholeNumber i32Of hexAt splitAt exponentAt floatOf f32Of trimmed ampersands zeroXAt digits alphaAt colourAt split append records encode count names lookup key keyAt part f32s i32s allFloats floatsIn allInts intsIn firstLong pairOf moveOf fadOf fadeOf rangedOf weightOf flagOf clipOf resetOf shaped isFn isNamedReset plainAt paramAt peel tagAt walk parse textGround readGround answer
+unfolding round toBits toSigned span back skip skipBack blankAt blankBefore closing maxZero roundAway roundByte value wholeNumber i32Of hexAt splitAt exponentAt floatOf f32Of trimmed ampersands zeroXAt digits alphaAt colourAt split append records encode count names lookup lowered keyAt part f32s i32s allFloats floatsIn allInts intsIn unlessLong pairOf moveOf fadOf fadeOf rangedOf weightOf flagOf clipOf resetOf shaped isFn isNamedReset plainAt paramAt peel tagAt walk parse textGround readGround answer
 answers = refl
 
 -- 01, Grounds: "Two faults: the lower number", for each two neighbours of 1, 2, 3, 4 and 9; the second is the number of places
@@ -107,5 +106,5 @@ pub two-faults : Answers (
     ((bytes "\\i1" ++ bytes farFade, 0), Refused (FadeTooFar 3)) ∷
     ((bytes "\\i1\\b1", 1), Refused (NoRoom 2)) ∷
     [])
-unfolding round toBits toSigned span back skip skipBack blankAt blankBefore closing maxZero roundAway roundByte value wholeNumber i32Of hexAt splitAt exponentAt floatOf f32Of trimmed ampersands zeroXAt digits alphaAt colourAt split append records encode count names lookup key keyAt part f32s i32s allFloats floatsIn allInts intsIn firstLong pairOf moveOf fadOf fadeOf rangedOf weightOf flagOf clipOf resetOf shaped isFn isNamedReset plainAt paramAt peel tagAt walk parse textGround readGround answer
+unfolding round toBits toSigned span back skip skipBack blankAt blankBefore closing maxZero roundAway roundByte value wholeNumber i32Of hexAt splitAt exponentAt floatOf f32Of trimmed ampersands zeroXAt digits alphaAt colourAt split append records encode count names lookup lowered keyAt part f32s i32s allFloats floatsIn allInts intsIn unlessLong pairOf moveOf fadOf fadeOf rangedOf weightOf flagOf clipOf resetOf shaped isFn isNamedReset plainAt paramAt peel tagAt walk parse textGround readGround answer
 two-faults = refl

@@ -1,7 +1,7 @@
 // Override blocks into tables: the two reading calls.
 ghost use mathlib.Core.Path.{_≡_};
 ghost use mathlib.Core.List.{[], _∷_};
-ghost use Prim.Native.Nat.{_+_, _-_, _*_, _^_, _≤_, _<_, min};
+ghost use Prim.Native.Nat.{_+_, _-_, _*_, _^_, _≤_, _<_};
 ghost use lib.ListN.{length};
 ghost use Rattle.refusal.specs.Refusal.{textGround};
 ghost use Rattle.refusal.specs.declared.Checked.the-variants.{Good};
@@ -52,12 +52,6 @@ pub struct Span {
 pub enum Reading {
     Read(usize),
     Refused(refusal::Refusal),
-}
-
-fn least(a: usize, b: usize) -> usize
-    ensures { λ r. ⌜ r ≡ min a b ⌝ }
-{
-    if a <= b { a } else { b }
 }
 
 // The parameter that starts at i, as `read_param` has it.
@@ -347,7 +341,7 @@ fn parse_t(text: &[u8], p: usize, q: usize, depth: usize, table: &mut [u32]) -> 
         };
     }
     let l = peel(text, p, q);
-    let start = least(8, table.len());
+    let start = scan::least(8, table.len());
     let o = parse_overrides_depth(text, l.rest, q, depth - 1, &mut table[start..]);
     let heads = l.heads;
     tag::put(table, t_record(heads, o.n as u32));
@@ -378,7 +372,7 @@ fn parse_overrides_depth(
             if h.end == i + 1 {
                 i += 1;
             } else {
-                let start = least(8 * out.n, table.len());
+                let start = scan::least(8 * out.n, table.len());
                 let o = parse_one(text, i, h, depth, &mut table[start..]);
                 let all = joined(out, o);
                 out = all;
@@ -402,7 +396,7 @@ fn check_read(o: Out, places: usize) -> Reading
         lists::Found::Nowhere => match far {
             lists::Found::At(p) => Reading::Refused(refusal::Refusal::FadeTooFar(p)),
             lists::Found::Nowhere => {
-                if o.n <= least(places, 1024) {
+                if o.n <= scan::least(places, 1024) {
                     Reading::Read(o.n)
                 } else {
                     Reading::Refused(refusal::Refusal::NoRoom(o.n))
@@ -417,7 +411,7 @@ fn read_good(text: &[u8], from: usize, to: usize, table: &mut [u32]) -> Reading
     requires { ⌜ (from ≤ to) × (to ≤ length (now text)) × (textGround (now text) ≡ Good) ⌝ }
     ensures { λ r. ⌜ Answered (now (text .entry)) (record { from = from; to = to }) (now (table .entry)) r (now (table .exit)) ⌝ }
 {
-    if survey::straight(text, from, to, least(table.len() / 8, 1024)) {
+    if survey::straight(text, from, to, scan::least(table.len() / 8, 1024)) {
         let o = parse_overrides_depth(text, from, to, 8, table);
         return Reading::Read(o.n);
     }

@@ -1,21 +1,40 @@
 -- Scanning a text by positions. A definition goes over n places from i on; `..To` is the same between two places.
 use mathlib.Core.Path.{_≡_}
-use mathlib.Core.List.{List}
+use mathlib.Core.List.{List, [], _∷_}
 use mathlib.Core.Bool.{Bool, true, false, not}
 use Prim.Native.Nat.{ℕ, zero, suc, _+_, _-_, _≤_}
+use Prim.Native.Char.{code}
+use Prim.Native.String.{String}
+use Prim.Native.String as String
 use lib.ListN.{getD}
 use lib.Dec.{ltb, leb, eqb}
 use Rattle.scan.specs.declared.Class.{Class}
 use Rattle.scan.specs.declared.Class.the-variants.{Digit, Letter, Is, Not, Either, Neither, Below}
+
+-- the bytes of an ASCII text written out
+abbrev pub bytes : String → List ℕ
+bytes String.[] = []
+bytes (String._∷_ c t) = code c ∷ bytes t
 
 -- a where b is true, else d. A recursive call goes in by a `let`, which waits.
 abbrev pub pick : {A : Type 0} → Bool → A → A → A
 pick true a d = a
 pick false a d = d
 
+-- two answers as one
+abbrev pub both : Bool → Bool → Bool
+both a b = pick a b false
+
+abbrev pub either : Bool → Bool → Bool
+either a b = pick a true b
+
 -- whether low ≤ b ≤ high
 abbrev pub within : ℕ → ℕ → ℕ → Bool
 within low high b = pick (leb low b) (leb b high) false
+
+-- Rust's `to_ascii_lowercase`
+abbrev pub lower : ℕ → ℕ
+lower b = pick (within 65 90 b) (b + 32) b
 
 -- the value of a digit, 0 to 9, then a to f of either case; 16 for any other byte
 abbrev pub digitOf : ℕ → ℕ

@@ -1,8 +1,8 @@
 // Scans over a text by positions: classes of bytes, blanks, trimming, the closing parenthesis.
 ghost use mathlib.Core.Path.{_≡_};
-ghost use Prim.Native.Nat.{ℕ, _+_, _-_, _^_, _≤_, _<_};
+ghost use Prim.Native.Nat.{ℕ, _+_, _-_, _^_, _≤_, _<_, min};
 ghost use lib.ListN.{length, getD};
-ghost use Rattle.scan.specs.Scan.{digitOf, inClass, isBlank, blankAt, blankBefore, spanTo, backTo, trimStart, trimEnd, past as pastTo, opened as openedBy, closingTo, Place};
+ghost use Rattle.scan.specs.Scan.{both as bothOf, either as eitherOf, lower as lowerOf, digitOf, inClass, isBlank, blankAt, blankBefore, spanTo, backTo, trimStart, trimEnd, past as pastTo, opened as openedBy, closingTo, Place};
 ghost use Rattle.scan.specs.Inner.{Passed};
 ghost use Rattle.scan.specs.declared.Class.the-variants.{Digit, Letter, Not, Below};
 ghost use mathlib.Core.Bool.{not};
@@ -17,6 +17,19 @@ pub enum Class {
     Either(u8, u8),
     Neither(u8, u8),
     Below(u8),
+}
+
+// A byte in lower case.
+pub fn lower(b: u8) -> u8
+    ensures { λ r. ⌜ r ≡ lowerOf b ⌝ }
+{
+    if b < 65 {
+        return b;
+    }
+    if b <= 90 {
+        return b + 32;
+    }
+    b
 }
 
 // The value of a hexadecimal digit of either case, and 16 for any other byte.
@@ -350,4 +363,23 @@ pub fn closing(text: &[u8], from: usize, to: usize) -> usize
         }
     }
     i
+}
+
+// What the crates above share, no scan: the lesser of two numbers, and two answers as one value, where `&&` and `||` would branch.
+pub fn least(a: usize, b: usize) -> usize
+    ensures { λ r. ⌜ r ≡ min a b ⌝ }
+{
+    if a <= b { a } else { b }
+}
+
+pub fn both(a: bool, b: bool) -> bool
+    ensures { λ r. ⌜ r ≡ bothOf a b ⌝ }
+{
+    if a { b } else { false }
+}
+
+pub fn either(a: bool, b: bool) -> bool
+    ensures { λ r. ⌜ r ≡ eitherOf a b ⌝ }
+{
+    if a { true } else { b }
 }

@@ -1,5 +1,5 @@
 use borrow.Author.Tests.{eq-eqb, ne-eqb}
-use Rattle.plain.specs.Coded.{clipTag}
+use Rattle.plain.specs.Inner.{clipTag}
 use borrow.Author.Needs.{needs}
 use Rattle.plain.proofs.clip_of.Statement.{statement}
 use Rattle.plain.proofs.clip_of.Tie as tie

@@ -1,5 +1,5 @@
 use borrow.Author.Tests.{le-leb, lt-leb}
-use Rattle.plain.specs.Coded.{fadTag}
+use Rattle.plain.specs.Inner.{fadTag}
 use borrow.Author.Needs.{needs}
 use Rattle.plain.proofs.fad_of.Statement.{statement}
 use Rattle.plain.proofs.fad_of.Tie as tie

@@ -1,5 +1,5 @@
 use borrow.Author.Tests.{le-leb, lt-leb}
-use Rattle.plain.specs.Coded.{fadeTag}
+use Rattle.plain.specs.Inner.{fadeTag}
 use borrow.Author.Needs.{needs}
 use Rattle.plain.proofs.fade_of.Statement.{statement}
 use Rattle.plain.proofs.fade_of.Tie as tie

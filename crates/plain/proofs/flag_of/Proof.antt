@@ -1,5 +1,5 @@
 use borrow.Author.Tests.{eq-eqb, ne-eqb}
-use Rattle.plain.specs.Coded.{flagTag}
+use Rattle.plain.specs.Inner.{flagTag}
 use borrow.Author.Needs.{needs}
 use Rattle.plain.proofs.flag_of.Statement.{statement}
 use Rattle.plain.proofs.flag_of.Tie as tie

@@ -1,4 +1,4 @@
-use Rattle.plain.specs.Coded.{fnTag}
+use Rattle.plain.specs.Inner.{fnTag}
 use borrow.Author.Needs.{needs}
 use Rattle.plain.proofs.fn_tag.Statement.{statement}
 use Rattle.plain.proofs.fn_tag.Tie as tie

@@ -35,7 +35,7 @@ returns-4 : tie.Need-returns-4
 unfolding keyAt
 returns-4 c =
     let b = c .before .before .before in
-    rw (le-leb _ _ (b .before .if1 .left), eq-eqb _ _ (b .if2 .left), ne-eqb _ _ (c .before .if3 .left), c .key-of2 .ensures, b .if2 .left)
+    rw (le-leb _ _ (b .before .if1 .left), eq-eqb _ _ (b .if2 .left), ne-eqb _ _ (c .before .if3 .left), c .key-of2 .ensures)
 
 pub key-at-spec : {M : Type 1} → statement M
 key-at-spec =

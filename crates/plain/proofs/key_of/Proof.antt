@@ -4,13 +4,13 @@ use native.Mathlib.Nat.{sub-self}
 use native.Mathlib.Omega.{arith}
 use borrow.Author.Needs.{needs}
 use lib.Dec.{lit<}
-use Rattle.plain.specs.Names.{key}
-use Rattle.plain.proofs.Keys.{key-end, key-go, lower-small, room, five}
+use Rattle.plain.specs.Names.{keyWith, lowered}
+use Rattle.plain.proofs.Keys.{key-end, key-go, room, five}
 use Rattle.plain.proofs.key_of.Statement.{statement}
 use Rattle.plain.proofs.key_of.Tie as tie
 
 abbrev Inv-loop : tie.InvT-loop
-Inv-loop text from to i₀ a₀ i a = (from ≤ i) × (i ≤ to) × (a < 256 ^ (i - from)) × (key text (to - from) from 0 ≡ key text (to - i) i a)
+Inv-loop text from to i₀ a₀ i a = (from ≤ i) × (i ≤ to) × (a < 256 ^ (i - from)) × (keyWith 0 (lowered text (to - from) from) ≡ keyWith a (lowered text (to - i) i))
 
 abbrev μ-loop : tie.MeasureT-loop
 μ-loop text from to i₀ a₀ i a = to - i
@@ -27,10 +27,12 @@ shared-slice-read-lower c = search needs
 lower-requires : tie.Need-lower-requires Inv-loop μ-loop
 lower-requires c κs = search needs
 
+cast-a : tie.Need-cast-a Inv-loop μ-loop
+cast-a c = search needs
+
 add-a : tie.Need-add-a Inv-loop μ-loop
 add-a c =
     let l = c .before .before .before in
-    let b : c .lower .result < 256 = rw (c .lower .ensures) (lower-small _ (c .before .shared-slice-known2 .given (l .loop .i) .fits)) in
     omega (arith, five _ _ (l .loop .inv .2) (omega arith))
 
 add-i : tie.Need-add-i Inv-loop μ-loop
@@ -42,7 +44,7 @@ loop-less c = search needs
 loop-again : tie.Need-loop-again Inv-loop μ-loop
 loop-again c =
     let l = c .before .before .before in
-    let b : c .lower .result < 256 = rw (c .lower .ensures) (lower-small _ (c .before .shared-slice-known2 .given (l .loop .i) .fits)) in
+    let b : c .lower .result < 256 = search needs in
     let e : l .loop .i + 1 - l .before .before .args .from ≡ l .loop .i - l .before .before .args .from + 1 = omega arith in
     (search needs, search needs, rw e (room _ _ _ (l .loop .inv .2) b), rw (c .lower .ensures) (l .loop .inv .3 ∙ key-go _ _ _ _ (search needs)))
 
@@ -59,6 +61,7 @@ key-of-spec =
     mul-a
     shared-slice-read-lower
     lower-requires
+    cast-a
     add-a
     add-i
     loop-less

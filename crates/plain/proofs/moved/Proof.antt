@@ -1,5 +1,5 @@
 use borrow.Author.Tests.{eq-eqb, ne-eqb}
-use Rattle.plain.specs.Coded.{moveTag}
+use Rattle.plain.specs.Inner.{moveTag}
 use borrow.Author.Needs.{needs}
 use Rattle.plain.proofs.moved.Statement.{statement}
 use Rattle.plain.proofs.moved.Tie as tie

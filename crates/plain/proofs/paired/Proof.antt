@@ -1,5 +1,5 @@
 use borrow.Author.Tests.{eq-eqb, ne-eqb}
-use Rattle.plain.specs.Coded.{pairTag}
+use Rattle.plain.specs.Inner.{pairTag}
 use borrow.Author.Needs.{needs}
 use Rattle.plain.proofs.paired.Statement.{statement}
 use Rattle.plain.proofs.paired.Tie as tie

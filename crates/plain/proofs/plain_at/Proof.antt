@@ -1,6 +1,6 @@
 use mathlib.Core.Path.{sym, _∙_}
 use Rattle.tag.specs.Table.{records}
-use Rattle.plain.specs.Coded.{fnTag}
+use Rattle.plain.specs.Inner.{fnTag}
 use Rattle.plain.proofs.Keys.{fn-goes-on}
 use Rattle.plain.proofs.Bridge.{bridge}
 use Rattle.plain.specs.Plain.{plainAt}

@@ -1,5 +1,5 @@
 use borrow.Author.Tests.{le-leb, lt-leb}
-use Rattle.plain.specs.Coded.{rangedTag}
+use Rattle.plain.specs.Inner.{rangedTag}
 use borrow.Author.Needs.{needs}
 use Rattle.plain.proofs.ranged_of.Statement.{statement}
 use Rattle.plain.proofs.ranged_of.Tie as tie

@@ -1,5 +1,5 @@
 use borrow.Author.Tests.{lt-ltb, le-ltb}
-use Rattle.plain.specs.Coded.{resetTag}
+use Rattle.plain.specs.Inner.{resetTag}
 use borrow.Author.Needs.{needs}
 use Rattle.plain.proofs.reset_of.Statement.{statement}
 use Rattle.plain.proofs.reset_of.Tie as tie

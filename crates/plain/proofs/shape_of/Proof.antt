@@ -1,6 +1,6 @@
 use Rattle.tag.specs.Table.{records}
 use Rattle.plain.specs.Names.{names, lookup}
-use Rattle.plain.specs.Coded.{codeOf}
+use Rattle.plain.specs.Inner.{codeOf}
 use Rattle.plain.proofs.Keys.{missed}
 use Rattle.plain.proofs.shape_of.Statement.{statement}
 use Rattle.plain.proofs.shape_of.Tie as tie

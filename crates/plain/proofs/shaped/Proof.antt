@@ -1,5 +1,5 @@
 use borrow.Author.Needs.{needs}
-use Rattle.plain.specs.Coded.{shapedTag}
+use Rattle.plain.specs.Inner.{shapedTag}
 use Rattle.plain.proofs.shaped.Statement.{statement}
 use Rattle.plain.proofs.shaped.Tie as tie
 

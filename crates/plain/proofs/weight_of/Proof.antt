@@ -1,5 +1,5 @@
 use borrow.Author.Tests.{eq-eqb, ne-eqb}
-use Rattle.plain.specs.Coded.{weightTag}
+use Rattle.plain.specs.Inner.{weightTag}
 use borrow.Author.Needs.{needs}
 use Rattle.plain.proofs.weight_of.Statement.{statement}
 use Rattle.plain.proofs.weight_of.Tie as tie

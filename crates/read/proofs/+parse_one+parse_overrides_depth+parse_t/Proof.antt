@@ -26,7 +26,7 @@ use Rattle.read.proofs.around.Reads as around-reads
 use Rattle.read.proofs.head_at.Reads as head-at-reads
 use Rattle.read.proofs.joined.Reads as joined-reads
 use Rattle.read.proofs.keep.Reads as keep-reads
-use Rattle.read.proofs.least.Reads as least-reads
+use Rattle.scan.proofs.least.Reads as least-reads
 use Rattle.read.proofs.peel.Reads as peel-reads
 use Rattle.read.proofs.t_record.Reads as t-record-reads
 use Rattle.tag.proofs.put.Reads as put-reads

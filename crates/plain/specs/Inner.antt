@@ -1,12 +1,13 @@
--- The words of a plain tag's record, from the words of its numbers: what the code works out, proved to be the record of the tag.
+-- What the inner functions say, in the code's words: nothing here is a promise to a caller.
+-- The words of a plain tag's record, from the words of its numbers, proved to be the record of the tag (proofs/Bridge.antt).
 use mathlib.Core.List.{List}
 use mathlib.Core.Bool.{Bool, true, false}
-use Prim.Native.Nat.{ℕ, _+_, _-_, min}
+use Prim.Native.Nat.{ℕ, _+_, _-_, _^_, min}
 use lib.Dec.{leb, ltb, eqb}
 use lib.Ieee.{binary32, ofBits, toSigned}
 use lib.ListN.{getD}
-use Rattle.scan.specs.Scan.{pick, trimStart, trimEnd}
-use Rattle.float.specs.Float.{zero as plusZero, maxZero, roundAway, roundByte, toWord}
+use Rattle.scan.specs.Scan.{pick, either, trimStart, trimEnd}
+use Rattle.float.specs.Float.{zero as plusZero, reach, maxZero, roundAway, roundByte, toWord}
 use Rattle.numeral.specs.Numeral.{f32At, i32At, wordOfF32, wordOfI32}
 use Rattle.numeral.specs.declared.Numeral.{Numeral}
 use Rattle.numeral.specs.declared.Numeral.the-variants.{No, TooLong, Word}
@@ -25,7 +26,7 @@ use Rattle.plain.specs.declared.Shape as Code
 use Rattle.plain.specs.declared.Shape.the-variants.{Float, Pair, Ranged, Flag, Alpha, Colour, Clip, Beat, Fad, Fade, Move, Edge, Baseline, Weight, Reset, Unknown}
 use Rattle.plain.specs.declared.Kept.{Kept}
 use Rattle.plain.specs.declared.Kept.the-variants as Kept
-use Rattle.plain.specs.declared.Part as Words
+use Rattle.plain.specs.declared.PartWords.{PartWords}
 use Rattle.plain.specs.Names as Names
 use Rattle.plain.specs.Plain.{One, no, long, kept, far, part}
 
@@ -98,11 +99,9 @@ notBelowZeroWord w = pick (ltb w 2147483648) w 0
 abbrev pub byteWord : ℕ → ℕ
 byteWord w = min (notBelowZeroWord w) 255
 
+-- a signed word beyond ±`reach`
 abbrev pub farWord : ℕ → Bool
-farWord w = pick (leb w 1000000000) false (ltb w 3294967296)
-
-abbrev pub either : Bool → Bool → Bool
-either a b = pick a true b
+farWord w = pick (leb w reach) false (ltb w (2 ^ 32 - reach))
 
 unfoldable pub fadTag : Bool → ℕ → List ℕ → Kept
 fadTag all n w = pick all (pick (leb 2 n) (Kept.Tag (rec 1 (notBelowZeroWord (nthWord w 0)) (notBelowZeroWord (nthWord w 1)) 0 0 0 0 0)) Kept.No) Kept.No
@@ -139,7 +138,7 @@ abbrev pub colourTag : ℕ → C.Colour → Kept
 colourTag k C.Colour.No = Kept.No
 colourTag k (Rgb r g b) = Kept.Tag (rec k r g b 0 0 0 0)
 
-abbrev pub partOf : Tag.Part → Words.Part
+abbrev pub partOf : Tag.Part → PartWords
 partOf x = record { offset = x .offset; size = x .size }
 
 abbrev pub drawingTag : ℕ → ℕ → ℕ → Kept
