@@ -17,25 +17,32 @@ pub enum Call {
 /// Words of a table or a path with room for every record.
 pub const WORDS: usize = 8 * 1_024;
 
-/// Calls the Rust on each text, so many times; what it gives is dropped at once.
+/// Calls the Rust on each text, so many times; what it gives is dropped at once. A host has bytes,
+/// which ours takes as they are: the Rust's time has the check that makes a `str` of them.
 pub fn rust(call: Call, texts: &[String], times: u32) {
     match call {
-        Call::Overrides => each(texts, times, |text| {
+        Call::Overrides => each(texts, times, |bytes| {
             let mut tags = Vec::new();
-            animate::parse_overrides(text, &mut tags);
+            animate::parse_overrides(checked(bytes), &mut tags);
             tags
         }),
-        Call::Raw => each(texts, times, |text| {
+        Call::Raw => each(texts, times, |bytes| {
             let mut tags = Vec::new();
-            animate::parse_raw_block(text, &mut tags);
+            animate::parse_raw_block(checked(bytes), &mut tags);
             tags
         }),
-        Call::Drawing => each(texts, times, |text| drawing::parse_drawing(text, 1)),
-        Call::Clip => each(texts, times, |text| {
-            let (scale, rest) = drawing::split_clip_arg(text);
+        Call::Drawing => each(texts, times, |bytes| {
+            drawing::parse_drawing(checked(bytes), 1)
+        }),
+        Call::Clip => each(texts, times, |bytes| {
+            let (scale, rest) = drawing::split_clip_arg(checked(bytes));
             (scale, rest.as_ptr(), rest.len())
         }),
     }
+}
+
+fn checked(bytes: &[u8]) -> &str {
+    std::str::from_utf8(bytes).expect("an ASCII text")
 }
 
 /// Calls ours in the same way and gives the last answer; `None`: the archives lack the call.
@@ -72,10 +79,10 @@ pub fn ours(call: Call, texts: &[String], times: u32, lent: &mut [u32]) -> Optio
     Some(answer)
 }
 
-fn each<T>(texts: &[String], times: u32, mut call: impl FnMut(&str) -> T) {
+fn each<T>(texts: &[String], times: u32, mut call: impl FnMut(&[u8]) -> T) {
     for _ in 0..times {
         for text in texts {
-            black_box(call(black_box(text)));
+            black_box(call(black_box(text.as_bytes())));
         }
     }
 }
