@@ -1,14 +1,15 @@
 -- Worked examples, by computation: a drawing and its commands, or its refusal.
 use mathlib.Core.Path.{_≡_, refl}
-use mathlib.Core.List.{List, [], _∷_, map}
+use mathlib.Core.List.{List, [], _∷_, _++_, map}
 use Prim.Native.Nat.{ℕ}
+use lib.ListN.{replicate}
 use lib.Ieee.{round, toBits, ofInt, add, mul, div, sum}
 use Prim.Native.String.{String}
 use Rattle.scan.specs.Scan.{bytes, span, skip, skipBack, blankAt, blankBefore}
 use Rattle.numeral.specs.Numeral.{value, splitAt, exponentAt, floatOf, f32Of}
 use Rattle.tag.specs.declared.Record.{Record}
 use Rattle.tag.specs.Table.{rec}
-use Rattle.refusal.specs.declared.Refusal.the-variants.{NumeralTooLong, ScaleTooLarge, NoRoom}
+use Rattle.refusal.specs.declared.Refusal.the-variants.{TextTooLong, NotAscii, NumeralTooLong, ScaleTooLarge, NoRoom}
 use Rattle.drawing.specs.declared.Drawing.{Drawing}
 use Rattle.drawing.specs.declared.Drawing.the-variants.{Drawn, Refused}
 use Rattle.tokens.specs.Tokens.{spells, special, tokenOf, wordEnd, tokens, untilLetter, tokensGround}
@@ -87,9 +88,24 @@ pub answers : Answers (
     ("m 1 2", 1, 1, Drawn 1) ∷
     ("m 1 2", 32, 1, Drawn 1) ∷
     ("m 1 2 c", 33, 0, Refused ScaleTooLarge) ∷
-    -- two faults: the lower number
-    ("m 1 2 x 1e5 c", 33, 0, Refused (NumeralTooLong 8)) ∷
     ("m 1 2 c", 1, 1, Refused (NoRoom 2)) ∷
     [])
 unfolding round toBits ofInt add mul div sum span skip skipBack blankAt blankBefore value splitAt exponentAt floatOf f32Of spells special tokenOf wordEnd tokens untilLetter scaleOf scaled weighed commandOf letterTurn walk textGround tokensGround ground answer
 answers = refl
+
+-- 01, Grounds: "Two faults: the lower number", for each two neighbours of 1, 2, 3, 7 and 9; behind the bytes the exponent and the number of places
+abbrev answerIn : List ℕ × ℕ × ℕ → Drawing
+answerIn r = answer (r .0) (r .1) (r .2)
+
+abbrev AnswersIn : List ((List ℕ × ℕ × ℕ) × Drawing) → Type 0
+AnswersIn rows = map (λ (r : (List ℕ × ℕ × ℕ) × Drawing). answerIn (r .0)) rows ≡ map (λ (r : (List ℕ × ℕ × ℕ) × Drawing). r .1) rows
+
+pub two-faults : AnswersIn (
+    ((replicate 12289 128, 33, 0), Refused TextTooLong) ∷
+    ((bytes "m 1 1e5" ++ (128 ∷ []), 33, 0), Refused (NotAscii 7)) ∷
+    ((bytes "m 1 2 x 1e5 c", 33, 0), Refused (NumeralTooLong 8)) ∷
+    ((bytes "m 1 2 1e5", 1, 0), Refused (NumeralTooLong 6)) ∷
+    ((bytes "m 1 2 c", 33, 0), Refused ScaleTooLarge) ∷
+    [])
+unfolding round toBits ofInt add mul div sum span skip skipBack blankAt blankBefore value splitAt exponentAt floatOf f32Of spells special tokenOf wordEnd tokens untilLetter scaleOf scaled weighed commandOf letterTurn walk textGround tokensGround ground answer
+two-faults = refl
