@@ -14,7 +14,7 @@ use Rattle.scan.specs.Scan.{pick}
 use Rattle.tokens.specs.declared.Token.{Token}
 use Rattle.tokens.specs.declared.Token.the-variants.{Letter, Number, Refused, Other}
 use Rattle.tokens.specs.Tokens.{lower, untilLetter}
-use Rattle.tokens.specs.Inner.{rateOf, weight}
+use Rattle.tokens.specs.Inner.{rateOf, letterWeight, weight}
 use Rattle.drawing.specs.declared.points.Point.{Point}
 use Rattle.drawing.specs.declared.pen.Ctrl.{Ctrl}
 use Rattle.drawing.specs.declared.pen.Ctrl.the-variants.{One, Two, Three, Span}
@@ -23,8 +23,8 @@ use Rattle.drawing.specs.declared.pen.Mode.the-variants.{Idle, Lines, Cu
 use Rattle.drawing.specs.declared.pen.Pen.{Pen}
 use Rattle.drawing.specs.declared.machine.Command.{Command}
 use Rattle.drawing.specs.declared.machine.Command.the-variants.{Move, MoveOpen, Line, Cubic, Basis, Close, Unknown}
-use Rattle.drawing.specs.Drawing.{Read1, none1, point, Read3, none3, points, readPoint, readThree, Turn, turned, splinePoint, byMode, settled, settledBy, pointedBy, curveBy, bareBy, continues, movesBy, command, commandOf, letterTurn, turnOf, walk, start, draw}
-use Rattle.drawing.proofs.Counting.{Two1, Two3, read-less, three-less, closing-one}
+use Rattle.drawing.specs.Drawing.{Read1, none1, point, Read3, none3, points, readPoint, readThree, Turn, turned, splinePoint, byMode, settled, settledBy, pointedBy, curveBy, bareBy, continues, closesFirst, movesBy, command, commandOf, letterTurn, turnOf, walk, start, draw}
+use Rattle.drawing.proofs.Counting.{Two1, Two3, read-less, three-less}
 
 numbered : (r : ℕ) (x : Float) (ts : List Token) → weight r ts + r ≤ weight r (Number x ∷ ts)
 unfolding weight
@@ -100,11 +100,40 @@ until-lighter r (Number x ∷ ts) = let h = until-lighter r ts in omega arith
 until-lighter r (Refused p ∷ ts) = let h = until-lighter r ts in omega arith
 until-lighter r (Other ∷ ts) = let h = until-lighter r ts in omega arith
 
-moves-weighs : (closes : Bool) (pen : Pen) (r : Read1) (ts : List Token) → Light1 3 (weight 3 ts) r → Weighs 3 (owed (pen .mode)) (weight 3 ts + 6) (movesBy closes pen r ts)
-moves-weighs closes pen none1 ts h = record { suits = inl refl; bound = omega arith }
-moves-weighs closes pen (point p rest) ts h = let w = closing-one closes (pen .opened) in record { suits = inl refl; bound = simp length-append (omega arith) }
+-- what a command may bring that no number pays for, in sixths
+abbrev need : Command → ℕ
+need Move = 6
+need MoveOpen = 0
+need Line = 0
+need Cubic = 0
+need Basis = 6
+need Close = 6
+need Unknown = 0
 
-command-weighs : (c : Command) (k : Float) (pen : Pen) (ts : List Token) → Weighs 3 (owed (pen .mode)) (weight 3 ts + 6) (command c k pen ts)
+need-letter : (b : ℕ) → need (commandOf b) ≤ letterWeight b
+unfolding commandOf
+need-letter b = go (eqb (lower b) 109) (eqb (lower b) 110) (eqb (lower b) 108) (eqb (lower b) 112) (eqb (lower b) 98) (eqb (lower b) 115) (eqb (lower b) 99)
+  where
+    go : (t u v w x y z : Bool) → need (pick t Move (pick u MoveOpen (pick v Line (pick w Line (pick x Cubic (pick y Basis (pick z Close Unknown))))))) ≤ pick t 6 (pick y 6 (pick z 6 0))
+    go true u v w x y z = le-refl _
+    go false true v w x y z = omega arith
+    go false false true w x y z = omega arith
+    go false false false true x y z = omega arith
+    go false false false false true y z = omega arith
+    go false false false false false true z = le-refl _
+    go false false false false false false true = le-refl _
+    go false false false false false false false = le-refl _
+
+closes-six : (a b : Bool) → 6 * length (closesFirst a b) ≤ pick a 6 0
+closes-six false b = le-refl _
+closes-six true false = omega arith
+closes-six true true = le-refl _
+
+moves-weighs : (closes : Bool) (pen : Pen) (r : Read1) (ts : List Token) → Light1 3 (weight 3 ts) r → Weighs 3 (owed (pen .mode)) (weight 3 ts + pick closes 6 0) (movesBy closes pen r ts)
+moves-weighs closes pen none1 ts h = record { suits = inl refl; bound = omega arith }
+moves-weighs closes pen (point p rest) ts h = let w = closes-six closes (pen .opened) in record { suits = inl refl; bound = simp length-append (omega arith) }
+
+command-weighs : (c : Command) (k : Float) (pen : Pen) (ts : List Token) → Weighs 3 (owed (pen .mode)) (weight 3 ts + need c) (command c k pen ts)
 command-weighs Move k pen ts = moves-weighs true pen (readPoint k ts) ts (read-less 3 (weight 3) (numbered 3) k ts)
 command-weighs MoveOpen k pen ts = moves-weighs false pen (readPoint k ts) ts (read-less 3 (weight 3) (numbered 3) k ts)
 command-weighs Line k pen ts = record { suits = inl refl; bound = omega arith }
@@ -122,9 +151,10 @@ rate-command b = go (eqb (lower b) 98) refl
     go true e = inr (refl, rw (eqb-true (lower b) 98 e))
     go false e = inl refl
 
-letter-weighs : (b : ℕ) (k : Float) (pen : Pen) (ts : List Token) → Weighs (rateOf b) (owed (pen .mode)) (weight (rateOf b) ts + 6) (command (commandOf b) k (settled pen) ts)
+letter-weighs : (b : ℕ) (k : Float) (pen : Pen) (ts : List Token) → Weighs (rateOf b) (owed (pen .mode)) (weight (rateOf b) ts + letterWeight b) (command (commandOf b) k (settled pen) ts)
 letter-weighs b k pen ts =
     let o = settled-owes (pen .mode) pen in
+    let n = need-letter b in
     ⊎-elim
     (λ z. let c = command-weighs (commandOf b) k (settled pen) ts in rw z (record { suits = c .suits; bound = omega (arith, c .bound) }))
     (λ z. rw (z .0, z .1) (record { suits = inr (refl, refl); bound = omega arith }))
@@ -151,7 +181,7 @@ turn-weighs : (r : ℕ) (t : Token) (k : Float) (pen : Pen) (ts : List Token) �
 unfolding letterTurn weight
 turn-weighs r (Letter b) k pen ts a f = record { rate = rateOf b; least = rate-least b; weighs = go (continues (pen .mode) b) refl }
   where
-    go : (t : Bool) → continues (pen .mode) b ≡ t → Weighs (rateOf b) (owed (pen .mode)) (weight (rateOf b) ts + 6) (pick t (turned pen [] ts) (command (commandOf b) k (settled pen) ts))
+    go : (t : Bool) → continues (pen .mode) b ≡ t → Weighs (rateOf b) (owed (pen .mode)) (weight (rateOf b) ts + letterWeight b) (pick t (turned pen [] ts) (command (commandOf b) k (settled pen) ts))
     go true e = record { suits = inl (continued b (pen .mode) e); bound = omega arith }
     go false e = letter-weighs b k pen ts
 turn-weighs r (Number x) k pen ts a f = record { rate = r; least = a; weighs = bare-weighs (pen .mode) r k pen (Number x ∷ ts) ts refl a f (omega arith) }

@@ -22,7 +22,7 @@ use Rattle.refusal.specs.declared.Checked.the-variants.{Good}
 use Rattle.tokens.specs.declared.Token.{Token}
 use Rattle.tokens.specs.declared.Token.the-variants.{Letter, Number, Refused, Other}
 use Rattle.tokens.specs.Tokens.{lower, spells, inf, infinity, nan, special, oneLetter, numeralToken, tokenOf, wordEnd, tokenEnd, tokens, from, tokensGround}
-use Rattle.tokens.specs.Inner.{rateOf, weight, Light}
+use Rattle.tokens.specs.Inner.{rateOf, letterWeight, weight, Light}
 use Rattle.tokens.proofs.Words.{from-end, from-more}
 
 -- ---- inf, infinity, nan begin with a letter
@@ -109,7 +109,7 @@ module _ (s : List ℕ) (i a r w most : ℕ) (e : a ≡ trimStart s i (length s)
   light-end h l = let z = from-end s i a e h in record { few = rw z (omega arith); good = λ p. rw z }
 
   module _ (b v : ℕ) (h : a < length s) (q : b ≡ tokenEnd s (a + 1)) (high : b ≤ length s) where
-    pub light-letter : oneLetter s a b ≡ true → (n : ℕ) → n ≡ rateOf (getD s a 0) → v ≡ w + 6 → Light s b n v most → Light s i r w most
+    pub light-letter : oneLetter s a b ≡ true → (n : ℕ) → n ≡ rateOf (getD s a 0) → v ≡ w + letterWeight (getD s a 0) → Light s b n v most → Light s i r w most
     unfolding weight tokensGround tokenOf
     light-letter o n g k l =
         let f : from s i ≡ Letter (getD s a 0) ∷ from s b = from-more s i a b e h q ∙ rw o in

@@ -45,10 +45,14 @@ pub record Skips (s : List ℕ) (i r : ℕ) : Type 0 where
 abbrev pub rateOf : ℕ → ℕ
 rateOf b = pick (eqb (lower b) 98) 1 3
 
--- what tokens weigh, in sixths of a command: a letter six, any other as its rate says
+-- what a letter weighs, in sixths of a command: m, s and c six, as they may bring one that no number pays for
+abbrev pub letterWeight : ℕ → ℕ
+letterWeight b = pick (eqb (lower b) 109) 6 (pick (eqb (lower b) 115) 6 (pick (eqb (lower b) 99) 6 0))
+
+-- what tokens weigh, in sixths of a command
 unfoldable pub weight : ℕ → List Token → ℕ
 weight r [] = 0
-weight r (Letter b ∷ ts) = weight (rateOf b) ts + 6
+weight r (Letter b ∷ ts) = weight (rateOf b) ts + letterWeight b
 weight r (Number x ∷ ts) = weight r ts + r
 weight r (Refused p ∷ ts) = weight r ts + r
 weight r (Other ∷ ts) = weight r ts + r

@@ -4,7 +4,7 @@ ghost use mathlib.Core.Bool.{true};
 ghost use Prim.Native.Nat.{_≤_, _<_};
 ghost use lib.ListN.{length};
 ghost use Rattle.tokens.specs.Tokens.{lower as lowerOf, spells as spellsAt, special as specialAt, oneLetter, tokenOf, tokenEnd, isLetter, from as tokensFrom, tail, tokensGround};
-ghost use Rattle.tokens.specs.Inner.{Follows, Skips, rateOf, Light, Straight};
+ghost use Rattle.tokens.specs.Inner.{Follows, Skips, rateOf, letterWeight, Light, Straight};
 use refusal::Checked;
 use refusal::Refusal;
 
@@ -216,6 +216,18 @@ fn rate_of(b: u8) -> usize
     if lower(b) == 98 { 1 } else { 3 }
 }
 
+// What a letter weighs, in sixths of a command.
+fn letter_weight(b: u8) -> usize
+    ensures { λ r. ⌜ (r ≡ letterWeight b) × (r ≤ 6) ⌝ }
+{
+    match lower(b) {
+        109 => 6,
+        115 => 6,
+        99 => 6,
+        _ => 0,
+    }
+}
+
 // Whether the tokens weigh at most so much, in sixths of a command, and none is a word.
 fn light(text: &[u8], most: usize) -> bool
     requires { ⌜ (length (now text) ≤ 12288) × (most ≤ 65536) ⌝ }
@@ -232,7 +244,7 @@ fn light(text: &[u8], most: usize) -> bool
         let b = token_end(text, a + 1);
         if one_letter(text, a, b) {
             rate = rate_of(text[a]);
-            w += 6;
+            w += letter_weight(text[a]);
         } else {
             if wordy(text, a, b) {
                 return false;

@@ -11,6 +11,7 @@ use Rattle.tokens.proofs.light.Tie as tie
 use Rattle.tokens.proofs.light.Reads as reads
 use Rattle.tokens.proofs.light.Lts as lts
 use Rattle.scan.proofs.trim_start.Reads as trim-start-reads
+use Rattle.tokens.proofs.letter_weight.Reads as letter-weight-reads
 use Rattle.tokens.proofs.one_letter.Reads as one-letter-reads
 use Rattle.tokens.proofs.rate_of.Reads as rate-of-reads
 use Rattle.tokens.proofs.token_end.Reads as token-end-reads
@@ -46,6 +47,12 @@ shared-slice-read-rate-of c = search needs
 rate-of-requires : tie.Need-rate-of-requires Inv-loop μ-loop
 rate-of-requires c κs = search needs
 
+shared-slice-read-letter-weight : tie.Need-shared-slice-read-letter-weight Inv-loop μ-loop
+shared-slice-read-letter-weight c = search needs
+
+letter-weight-requires : tie.Need-letter-weight-requires Inv-loop μ-loop
+letter-weight-requires c κs = search needs
+
 add-w : tie.Need-add-w Inv-loop μ-loop
 add-w c = search needs
 
@@ -72,10 +79,10 @@ loop-again c =
     let e = c .before .before .before .token-end .ensures in
     let o = c .before .before .one-letter .ensures in (
       search needs,
-      ⊎-elim (λ w. rw (w .3) (w .2 .ensures .1)) (λ w. rw (w .3) (l .inv .1)) (c .before .if2 .came),
+      ⊎-elim (λ w. rw (w .5) (w .2 .ensures .1)) (λ w. rw (w .3) (l .inv .1)) (c .before .if2 .came),
       search needs,
       ⊎-elim
-          (λ w k. l .inv .3 (light-letter _ _ _ _ _ _ t _ _ a (e .0) (e .2) (sym o ∙ w .0 .taken) _ (w .3 ∙ w .2 .ensures .0) (w .4) k))
+          (λ w k. l .inv .3 (light-letter _ _ _ _ _ _ t _ _ a (e .0) (e .2) (sym o ∙ w .0 .taken) _ (w .5 ∙ w .2 .ensures .0) (w .6 ∙ rw (w .4 .ensures .0)) k))
           (λ w k. l .inv .3 (light-other _ _ _ _ _ _ t _ _ a (e .0) (e .2) (sym o ∙ w .0 .left) (λ z. true≢false (sym (w .1 .ensures z) ∙ w .2 .left)) (w .4) (rw (w .3) at k)))
           (c .before .if2 .came),
     )
@@ -94,6 +101,8 @@ light-spec =
     one-letter-requires
     shared-slice-read-rate-of
     rate-of-requires
+    shared-slice-read-letter-weight
+    letter-weight-requires
     add-w
     wordy-requires
     returns-2
