@@ -5,8 +5,7 @@ use mathlib.Core.Bool.{false}
 use Prim.Native.String.{String}
 use lib.IntN.{pos}
 use lib.Ieee.{fin, round}
-use Rattle.scan.specs.Scan.{span, skip, skipBack, blankAt, blankBefore}
-use Rattle.numeral.specs.Sheet.{bytes}
+use Rattle.scan.specs.Scan.{bytes, span, skip, skipBack, blankAt, blankBefore}
 use Rattle.numeral.specs.Numeral.{value, splitAt, exponentAt, floatOf, f32Of}
 use Rattle.refusal.specs.declared.Checked.{Checked}
 use Rattle.refusal.specs.declared.Checked.the-variants.{Good, Bad}
