@@ -1,12 +1,11 @@
 use mathlib.Core.Path.{_≡_, refl, sym, ap, _∙_}
 use mathlib.Core.List.{List, [], _∷_, _++_, append-assoc, append-nil}
 use mathlib.Core.Logic.{⊎-elim, _⊎_, inl, inr}
-use lib.Seq.{take-all, take-suc, take-at, drop-length, drop-drop, drop-cons, length-take-le, drop-at, set-at, take-append-add, drop-append-add}
+use lib.Seq.{take-all, drop-length, drop-drop, length-take-le, drop-at, take-append-add, drop-append-add}
 use Prim.Native.Nat.{ℕ, suc, _+_, _-_, _*_, _≤_, _<_, min}
 use native.Mathlib.Omega.{arith}
-use native.Mathlib.Numerals.{add-one}
 use native.Mathlib.Decide.{decLe}
-use lib.ListN.{length, take, drop, getD, set, length-append, length-drop, take-append-drop}
+use lib.ListN.{length, take, drop, length-append, length-drop, take-append-drop}
 use borrow.Author.Tests.{le-leb, lt-leb}
 use Rattle.tag.specs.declared.Record.{Record}
 use Rattle.tag.specs.Table.{laid, words, tableWords}
@@ -115,18 +114,3 @@ pub length-words : (rs : List Record) → length (tableWords rs) ≡ 8 * length 
 unfolding tableWords
 length-words [] = refl
 length-words (r ∷ rs) = let i = length-words rs in omega arith
-
--- one word more is copied
-copied-more : (s t : List ℕ) (i : ℕ) → i < length s → i < length t → set (take i s ++ drop i t) i (getD s i 0) ≡ take (i + 1) s ++ drop (i + 1) t
-copied-more s t i h k =
-    let l : length (take i s) ≡ i = length-take-le i s (omega arith) in
-    rw (add-one i, drop-cons t i 0 k, take-suc s i 0 h, append-assoc)
-    (set-at (take i s) (getD t i 0) (drop (suc i) t) (getD s i 0) i l)
-
-pub copied-at : (s t l : List ℕ) (i j : ℕ) → l ≡ take i s ++ drop i t → j ≡ i + 1 → i < length s → i < length t → set l i (getD s i 0) ≡ take j s ++ drop j t
-copied-at s t l i j e q h k = rw (e, q) (copied-more s t i h k)
-
--- records that are copied from a table with room for them to another are as if written there
-pub laid-copied : (rs : List Record) (s t : List ℕ) → 8 * length rs ≤ length s → 8 * length rs ≤ length t → take (8 * length rs) (laid s rs) ++ drop (8 * length rs) t ≡ laid t rs
-laid-copied rs s t h k =
-    rw (laid-full rs s h, take-at (tableWords rs) (drop (8 * length rs) s) (8 * length rs) (length-words rs), laid-full rs t k)
