@@ -36,13 +36,13 @@ Light1 r = Two1 r (weight r) (numbered r)
 abbrev Light3 : ℕ → ℕ → Read3 → Type 0
 Light3 r = Two3 r (weight r) (numbered r)
 
--- what a pen still owes, in sixths of a command: a spline that has drawn nothing yet draws two commands at once
+-- what a pen still owes, in sixths of a command: a spline's fourth point draws two commands at once, and the third pays for one
 abbrev owed : Mode → ℕ
 owed Idle = 0
 owed Lines = 0
 owed Cubics = 0
-owed (Spline (One a)) = 6
-owed (Spline (Two a b)) = 6
+owed (Spline (One a)) = 0
+owed (Spline (Two a b)) = 0
 owed (Spline (Three a b c)) = 6
 owed (Spline (Span b c)) = 0
 
@@ -106,7 +106,7 @@ need Move = 6
 need MoveOpen = 0
 need Line = 0
 need Cubic = 0
-need Basis = 6
+need Basis = 0
 need Close = 6
 need Unknown = 0
 
@@ -114,13 +114,13 @@ need-letter : (b : ℕ) → need (commandOf b) ≤ letterWeight b
 unfolding commandOf
 need-letter b = go (eqb (lower b) 109) (eqb (lower b) 110) (eqb (lower b) 108) (eqb (lower b) 112) (eqb (lower b) 98) (eqb (lower b) 115) (eqb (lower b) 99)
   where
-    go : (t u v w x y z : Bool) → need (pick t Move (pick u MoveOpen (pick v Line (pick w Line (pick x Cubic (pick y Basis (pick z Close Unknown))))))) ≤ pick t 6 (pick y 6 (pick z 6 0))
+    go : (t u v w x y z : Bool) → need (pick t Move (pick u MoveOpen (pick v Line (pick w Line (pick x Cubic (pick y Basis (pick z Close Unknown))))))) ≤ pick t 6 (pick z 6 0)
     go true u v w x y z = le-refl _
     go false true v w x y z = omega arith
     go false false true w x y z = omega arith
     go false false false true x y z = omega arith
     go false false false false true y z = omega arith
-    go false false false false false true z = le-refl _
+    go false false false false false true z = omega arith
     go false false false false false false true = le-refl _
     go false false false false false false false = le-refl _
 

@@ -45,9 +45,9 @@ pub record Skips (s : List ℕ) (i r : ℕ) : Type 0 where
 abbrev pub rateOf : ℕ → ℕ
 rateOf b = pick (eqb (lower b) 98) 1 3
 
--- what a letter weighs, in sixths of a command: m, s and c six, as they may bring one that no number pays for
+-- what a letter weighs, in sixths of a command: m and c six, as they may close a path, which no number pays for
 abbrev pub letterWeight : ℕ → ℕ
-letterWeight b = pick (eqb (lower b) 109) 6 (pick (eqb (lower b) 115) 6 (pick (eqb (lower b) 99) 6 0))
+letterWeight b = pick (eqb (lower b) 109) 6 (pick (eqb (lower b) 99) 6 0)
 
 -- what tokens weigh, in sixths of a command
 unfoldable pub weight : ℕ → List Token → ℕ

@@ -222,7 +222,6 @@ fn letter_weight(b: u8) -> usize
 {
     match lower(b) {
         109 => 6,
-        115 => 6,
         99 => 6,
         _ => 0,
     }

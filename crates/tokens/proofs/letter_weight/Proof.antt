@@ -18,12 +18,9 @@ returns-2 : tie.Need-returns-2
 returns-2 c = (rw (sym (c .before .lower .ensures) ∙ c .match .keys2), omega arith)
 
 returns-3 : tie.Need-returns-3
-returns-3 c = (rw (sym (c .before .lower .ensures) ∙ c .match .keys3), omega arith)
-
-returns-4 : tie.Need-returns-4
-returns-4 c =
+returns-3 c =
     let n = c .match .rest in
-    (rw (← c .before .lower .ensures, ne-eqb _ 109 (n .0 .0 .1), ne-eqb _ 115 (n .0 .1), ne-eqb _ 99 (n .1)), omega arith)
+    (rw (← c .before .lower .ensures, ne-eqb _ 109 (n .0 .1), ne-eqb _ 99 (n .1)), omega arith)
 
 pub letter-weight-spec : {M : Type 1} → statement M
-letter-weight-spec = tie.close (tie.spec lower-requires returns returns-2 returns-3 returns-4)
+letter-weight-spec = tie.close (tie.spec lower-requires returns returns-2 returns-3)
