@@ -8,7 +8,7 @@ use native.Mathlib.Nat.{le-refl}
 use lib.Ieee.{Float}
 use lib.ListN.{length, length-append}
 use Rattle.scan.proofs.Laws.{picked}
-use Rattle.tag.specs.declared.Record.{Record}
+use Rattle.drawing.specs.declared.path.PathCommand.{PathCommand}
 use Rattle.tokens.specs.declared.Token.{Token}
 use Rattle.tokens.specs.declared.Token.the-variants.{Letter, Number, Refused, Other}
 use Rattle.drawing.specs.declared.points.Point.{Point}
@@ -158,10 +158,10 @@ module _ (k : Float) where
   fuel (suc n) (suc m) pen (t ∷ ts) a b =
       let u = turnOf t k pen (t ∷ ts) ts in
       let c = turn-counts t k pen ts in
-      ap (λ (l : List Record). u .path ++ l) (fuel n m (u .pen) (u .rest) (omega (arith, c .shorter)) (omega (arith, c .shorter)))
+      ap (λ (l : List PathCommand). u .path ++ l) (fuel n m (u .pen) (u .rest) (omega (arith, c .shorter)) (omega (arith, c .shorter)))
 
   -- what is still to come from a pen and the tokens left
-  abbrev pub left : Pen → List Token → List Record
+  abbrev pub left : Pen → List Token → List PathCommand
   left pen ts = walk k (length ts) pen ts
 
   pub left-end : (pen : Pen) (ts : List Token) → ts ≡ [] → left pen ts ≡ []
@@ -173,7 +173,7 @@ module _ (k : Float) where
   left-turn pen t all ts e =
       let u = turnOf t k pen (t ∷ ts) ts in
       let c = turn-counts t k pen ts in
-      rw e (ap (λ (l : List Record). u .path ++ l) (fuel (length ts) (length (u .rest)) (u .pen) (u .rest) (c .shorter) (le-refl (length (u .rest)))))
+      rw e (ap (λ (l : List PathCommand). u .path ++ l) (fuel (length ts) (length (u .rest)) (u .pen) (u .rest) (c .shorter) (le-refl (length (u .rest)))))
 
   -- a drawing gives at most as many commands as it has tokens
   walk-few : (n : ℕ) (pen : Pen) (ts : List Token) → length (walk k n pen ts) ≤ length ts

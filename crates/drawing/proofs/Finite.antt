@@ -14,8 +14,8 @@ use Rattle.scan.specs.Scan.{pick, trimStart, trimEnd}
 use Rattle.scan.proofs.Laws.{picked, le-or-lt}
 use Rattle.numeral.specs.Numeral.{F32, tooLong, number, f32At}
 use Rattle.numeral.proofs.Reach.{number-in-reach}
-use Rattle.tag.specs.declared.Record.{Record}
-use Rattle.tag.specs.Table.{bits}
+use Rattle.drawing.specs.declared.path.PathCommand.{PathCommand}
+use Rattle.rows.specs.Rows.{bits}
 use Rattle.tokens.specs.declared.Token.{Token}
 use Rattle.tokens.specs.declared.Token.the-variants.{Letter, Number, Refused, Other}
 use Rattle.drawing.specs.declared.points.Point.{Point}
@@ -41,7 +41,7 @@ pub record FiniteWord (w : ℕ) : Type 0 where
   pub is : w ≡ bits value
 
 -- all words behind a command's kind are; where there is no coordinate, plus zero's
-pub record FiniteCommand (r : Record) : Type 0 where
+pub record FiniteCommand (r : PathCommand) : Type 0 where
   pub w1 : FiniteWord (r .w1)
   pub w2 : FiniteWord (r .w2)
   pub w3 : FiniteWord (r .w3)
@@ -50,9 +50,9 @@ pub record FiniteCommand (r : Record) : Type 0 where
   pub w6 : FiniteWord (r .w6)
   pub w7 : FiniteWord (r .w7)
 
-pub data FinitePath : List Record → Type 0 where
+pub data FinitePath : List PathCommand → Type 0 where
   end : FinitePath []
-  and : {r : Record} {l : List Record} → FiniteCommand r → FinitePath l → FinitePath (r ∷ l)
+  and : {r : PathCommand} {l : List PathCommand} → FiniteCommand r → FinitePath l → FinitePath (r ∷ l)
 
 -- ---- floats and points
 
@@ -145,7 +145,7 @@ near-cubic a b c = record { w1 = word (a .x); w2 = word (a .y); w3 = word (b .x)
 near-close : FiniteCommand closed
 near-close = record { w1 = no-word; w2 = no-word; w3 = no-word; w4 = no-word; w5 = no-word; w6 = no-word; w7 = no-word }
 
-near-append : {a b : List Record} → FinitePath a → FinitePath b → FinitePath (a ++ b)
+near-append : {a b : List PathCommand} → FinitePath a → FinitePath b → FinitePath (a ++ b)
 near-append end y = y
 near-append (and x l) y = and x (near-append l y)
 

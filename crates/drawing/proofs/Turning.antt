@@ -9,7 +9,7 @@ use lib.Ieee.{Float}
 use lib.ListN.{length}
 use types.Run.{OneOf}
 use denote.Enum.Declared.{tagOf}
-use Rattle.tag.specs.declared.Record.{Record}
+use Rattle.drawing.specs.declared.path.PathCommand.{PathCommand}
 use Rattle.tokens.specs.declared.Token.{Token}
 use Rattle.tokens.specs.declared.Token.the-variants.{Letter, Number, Refused, Other}
 use Rattle.tokens.proofs.Token.{the-type}
@@ -126,4 +126,4 @@ going-on {s} {t} {u} {v} {n} {m} {i} {j} {l} {r} k pen x h w e =
     let g = turnOf x k pen (from s i) (from s j) in
     let a : Emits u (r .n) (left k (g .pen) (from s (r .next))) m v = subst (λ (y : Pen). Emits u (r .n) (left k y (from s (r .next))) m v) (w .pen) e in
     let b : Emits u (r .n) (left k (g .pen) (g .rest)) m v = subst (λ (y : List Token). Emits u (r .n) (left k (g .pen) y) m v) (w .rest) a in
-    subst (λ (y : List Record). Emits t n y m v) (sym (left-turn k pen x (from s i) (from s j) (h .is))) (emits-join (w .emits) b)
+    subst (λ (y : List PathCommand). Emits t n y m v) (sym (left-turn k pen x (from s i) (from s j) (h .is))) (emits-join (w .emits) b)

@@ -7,8 +7,8 @@ use lib.ListN.{length}
 use Rattle.scan.specs.Scan.{pick}
 use Rattle.refusal.specs.Refusal.{numberOf, placeOf, mostPlaces, textGround}
 use Rattle.refusal.specs.declared.Refusal.the-variants.{ScaleTooLarge, NoRoom}
-use Rattle.tag.specs.declared.Record.{Record}
-use Rattle.tag.specs.Table.{laid, width}
+use Rattle.drawing.specs.declared.path.PathCommand.{PathCommand}
+use Rattle.drawing.specs.Path.{commandWidth, laidPath}
 use Rattle.refusal.specs.declared.Checked.{Checked}
 use Rattle.refusal.specs.declared.Checked.the-variants.{Good, Bad}
 use Rattle.drawing.specs.declared.Drawing.{Drawing}
@@ -32,12 +32,12 @@ unfoldable pub ground : List ℕ → ℕ → Checked
 ground s exponent = unless (textGround s) (unless (tokensGround (from s 0)) (exponentGround exponent))
 
 -- the commands of a drawing
-abbrev pub drawing : List ℕ → ℕ → List Record
+abbrev pub drawing : List ℕ → ℕ → List PathCommand
 drawing s exponent = draw (scaleOf exponent) (from s 0)
 
 -- a place is one whole command
 abbrev pub placesOf : List ℕ → ℕ
-placesOf t = length t / width
+placesOf t = length t / commandWidth
 
 -- ground 9, on the number of commands and the places there are
 abbrev pub roomFor : ℕ → ℕ → Drawing
@@ -52,8 +52,8 @@ unfoldable pub answer : List ℕ → ℕ → ℕ → Drawing
 answer s exponent places = unlessBad (ground s exponent) (roomFor (length (drawing s exponent)) places)
 
 -- the path table afterwards: the commands and then every old word; on a refusal every old word
-abbrev pub pathAfter : Drawing → List ℕ → List Record → List ℕ
-pathAfter (Drawn n) t cs = laid t cs
+abbrev pub pathAfter : Drawing → List ℕ → List PathCommand → List ℕ
+pathAfter (Drawn n) t cs = laidPath t cs
 pathAfter (Refused r) t cs = t
 
 unfoldable pub after : List ℕ → ℕ → List ℕ → List ℕ

@@ -8,8 +8,9 @@ use lib.IntN.{pos}
 use lib.Ieee.{Float, fin, binary32, add, mul, div, ofInt}
 use lib.ListN.{length}
 use Rattle.scan.specs.Scan.{pick}
-use Rattle.tag.specs.declared.Record.{Record}
-use Rattle.tag.specs.Table.{rec, bits}
+use Rattle.drawing.specs.declared.path.PathCommand.{PathCommand}
+use Rattle.rows.specs.Rows.{bits}
+use Rattle.drawing.specs.Path.{pathCommand}
 use Rattle.tokens.specs.declared.Token.{Token}
 use Rattle.tokens.specs.declared.Token.the-variants.{Letter, Number, Refused, Other}
 use Rattle.tokens.specs.Tokens.{lower, untilLetter}
@@ -62,17 +63,17 @@ bez a wa b wb c wc = at (weighed (a .x) wa (b .x) wb (c .x) wc) (weighed (a .y) 
 
 -- ---- 01, Owned Rust values: "eight words a command: 1 move, 2 line, 3 cubic, 4 close, then up to six f32 bit patterns, then zeros"
 
-abbrev pub moveTo : Point → Record
-moveTo p = rec 1 (bits (p .x)) (bits (p .y)) 0 0 0 0 0
+abbrev pub moveTo : Point → PathCommand
+moveTo p = pathCommand 1 (bits (p .x)) (bits (p .y)) 0 0 0 0 0
 
-abbrev pub lineTo : Point → Record
-lineTo p = rec 2 (bits (p .x)) (bits (p .y)) 0 0 0 0 0
+abbrev pub lineTo : Point → PathCommand
+lineTo p = pathCommand 2 (bits (p .x)) (bits (p .y)) 0 0 0 0 0
 
-abbrev pub cubicTo : Point → Point → Point → Record
-cubicTo p q r = rec 3 (bits (p .x)) (bits (p .y)) (bits (q .x)) (bits (q .y)) (bits (r .x)) (bits (r .y)) 0
+abbrev pub cubicTo : Point → Point → Point → PathCommand
+cubicTo p q r = pathCommand 3 (bits (p .x)) (bits (p .y)) (bits (q .x)) (bits (q .y)) (bits (r .x)) (bits (r .y)) 0
 
-abbrev pub closed : Record
-closed = rec 4 0 0 0 0 0 0 0
+abbrev pub closed : PathCommand
+closed = pathCommand 4 0 0 0 0 0 0 0
 
 -- Rust's `emit_bspline` on a window of four control points a b c d: where the first span starts, its cubic, and where that ends
 abbrev pub spanStart : Point → Point → Point → Point
@@ -81,7 +82,7 @@ spanStart a b c = bez a f1 b f4 c f1
 abbrev pub spanEnd : Point → Point → Point → Point
 spanEnd b c d = bez b f1 c f4 d f1
 
-abbrev pub spanOf : Point → Point → Point → Record
+abbrev pub spanOf : Point → Point → Point → PathCommand
 spanOf b c d = cubicTo (bez b f4 c f2 c f0) (bez b f2 c f4 c f0) (spanEnd b c d)
 
 -- ---- reading points
@@ -123,10 +124,10 @@ readThree k ts = behindPoint (readPoint k ts) (λ p us. behindPoint (readPoint k
 -- l, b and p are these turns, and s is the mode that gathers control points: as each comes, the window of four moves on.
 pub record Turn : Type 0 where
   pub pen : Pen
-  pub path : List Record
+  pub path : List PathCommand
   pub rest : List Token
 
-abbrev pub turned : Pen → List Record → List Token → Turn
+abbrev pub turned : Pen → List PathCommand → List Token → Turn
 turned pen path rest = record { pen = pen; path = path; rest = rest }
 
 abbrev pub penOf : Point → Bool → Mode → Pen
@@ -135,9 +136,9 @@ penOf cur opened mode = record { cur = cur; opened = opened; mode = mode }
 -- a pen and commands
 pub record Gives : Type 0 where
   pub pen : Pen
-  pub path : List Record
+  pub path : List PathCommand
 
-abbrev pub gives : Pen → List Record → Gives
+abbrev pub gives : Pen → List PathCommand → Gives
 gives pen path = record { pen = pen; path = path }
 
 abbrev pub behind : Gives → List Token → Turn
@@ -214,7 +215,7 @@ continues Cubics b = false
 continues (Spline c) b = eqb b 112
 
 -- 01: "`m` closes an open subpath, `n` does not"
-abbrev pub closesFirst : Bool → Bool → List Record
+abbrev pub closesFirst : Bool → Bool → List PathCommand
 closesFirst closes opened = pick (pick closes opened false) (closed ∷ []) []
 
 abbrev pub movesBy : Bool → Pen → Read1 → List Token → Turn
@@ -253,7 +254,7 @@ turnOf (Refused p) k pen all ts = bareTurn k pen all ts
 turnOf Other k pen all ts = bareTurn k pen all ts
 
 -- all tokens, in at most n turns
-unfoldable pub walk : Float → ℕ → Pen → List Token → List Record
+unfoldable pub walk : Float → ℕ → Pen → List Token → List PathCommand
 walk k zero pen ts = []
 walk k (suc n) pen [] = []
 walk k (suc n) pen (t ∷ ts) =
@@ -264,5 +265,5 @@ abbrev pub start : Pen
 start = penOf (at f0 f0) false Idle
 
 -- the commands of a drawing
-abbrev pub draw : Float → List Token → List Record
+abbrev pub draw : Float → List Token → List PathCommand
 draw k ts = walk k (length ts) start ts

@@ -7,8 +7,8 @@ use lib.Ieee.{Float}
 use lib.ListN.{length, take, drop}
 use Rattle.refusal.specs.declared.Checked.{Checked}
 use Rattle.refusal.specs.declared.Checked.the-variants.{Good}
-use Rattle.tag.specs.declared.Record.{Record}
-use Rattle.tag.specs.Table.{laid, width}
+use Rattle.drawing.specs.declared.path.PathCommand.{PathCommand}
+use Rattle.drawing.specs.Path.{commandWidth, laidPath}
 use Rattle.tokens.specs.declared.Token.{Token}
 use Rattle.tokens.specs.Tokens.{from, tokensGround}
 use Rattle.drawing.specs.declared.points.Point.{Point}
@@ -58,9 +58,9 @@ pub record ReadsThree (s : List ℕ) (k : Float) (i : ℕ) (r : ThreePoints) : T
 -- ---- commands
 
 -- t with commands written behind its first n places, as many as there is room for, is u; then there are m
-pub record Emits (t : List ℕ) (n : ℕ) (cs : List Record) (m : ℕ) (u : List ℕ) : Type 0 where
+pub record Emits (t : List ℕ) (n : ℕ) (cs : List PathCommand) (m : ℕ) (u : List ℕ) : Type 0 where
   pub count : m ≡ n + length cs
-  pub path : u ≡ take (min (width * n) (length t)) t ++ laid (drop (min (width * n) (length t)) t) cs
+  pub path : u ≡ take (min (commandWidth * n) (length t)) t ++ laidPath (drop (min (commandWidth * n) (length t)) t) cs
 
 -- a point's pen and commands
 pub record Stroked (t : List ℕ) (n : ℕ) (g : Gives) (r : Stroke) (u : List ℕ) : Type 0 where

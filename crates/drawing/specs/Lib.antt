@@ -1,3 +1,4 @@
+pub mod Path
 pub mod Drawing
 pub mod Answer
 pub mod Inner

@@ -7,8 +7,8 @@ use lib.Ieee.{round, toBits, ofInt, add, mul, div, sum}
 use Prim.Native.String.{String}
 use Rattle.scan.specs.Scan.{bytes, span, skip, skipBack, blankAt, blankBefore}
 use Rattle.numeral.specs.Numeral.{value, splitAt, exponentAt, floatOf, f32Of}
-use Rattle.tag.specs.declared.Record.{Record}
-use Rattle.tag.specs.Table.{rec}
+use Rattle.drawing.specs.declared.path.PathCommand.{PathCommand}
+use Rattle.drawing.specs.Path.{pathCommand}
 use Rattle.refusal.specs.declared.Refusal.the-variants.{TextTooLong, NotAscii, NumeralTooLong, ScaleTooLarge, NoRoom}
 use Rattle.drawing.specs.declared.Drawing.{Drawing}
 use Rattle.drawing.specs.declared.Drawing.the-variants.{Drawn, Refused}
@@ -18,17 +18,17 @@ use Rattle.drawing.specs.Answer.{ground, drawing, answer}
 use Rattle.refusal.specs.Refusal.{textGround}
 
 -- the commands of the sheet, and some numbers as f32
-abbrev move : ℕ → ℕ → Record
-move x y = rec 1 x y 0 0 0 0 0
+abbrev move : ℕ → ℕ → PathCommand
+move x y = pathCommand 1 x y 0 0 0 0 0
 
-abbrev line : ℕ → ℕ → Record
-line x y = rec 2 x y 0 0 0 0 0
+abbrev line : ℕ → ℕ → PathCommand
+line x y = pathCommand 2 x y 0 0 0 0 0
 
-abbrev cubic : ℕ → ℕ → ℕ → ℕ → ℕ → ℕ → Record
-cubic a b c d e f = rec 3 a b c d e f 0
+abbrev cubic : ℕ → ℕ → ℕ → ℕ → ℕ → ℕ → PathCommand
+cubic a b c d e f = pathCommand 3 a b c d e f 0
 
-abbrev close : Record
-close = rec 4 0 0 0 0 0 0 0
+abbrev close : PathCommand
+close = pathCommand 4 0 0 0 0 0 0 0
 
 abbrev half : ℕ
 half = 0x3F000000
@@ -52,8 +52,8 @@ abbrev n6 : ℕ
 n6 = 0x40C00000
 
 -- that each drawing, at its exponent, has its commands
-abbrev pub Draws : List (String × ℕ × List Record) → Type 0
-Draws rows = map (λ (r : String × ℕ × List Record). drawing (bytes (r .0)) (r .1)) rows ≡ map (λ (r : String × ℕ × List Record). r .2) rows
+abbrev pub Draws : List (String × ℕ × List PathCommand) → Type 0
+Draws rows = map (λ (r : String × ℕ × List PathCommand). drawing (bytes (r .0)) (r .1)) rows ≡ map (λ (r : String × ℕ × List PathCommand). r .2) rows
 
 -- 01, Sheet
 pub sheet : drawing (bytes "m 0 0 s 6 0 6 6 0 6") 1 ≡ move 0 0 ∷ line n5 n1 ∷ cubic n6 n2 n6 n4 n5 n5 ∷ []

@@ -4,7 +4,20 @@ ghost use mathlib.Core.List.{[], _∷_};
 ghost use Prim.Native.Nat.{_<_, min};
 ghost use Rattle.drawing.specs.Drawing.{moveTo, lineTo, cubicTo, closed, closesFirst};
 ghost use Rattle.drawing.specs.Inner.{Emits};
+ghost use Rattle.drawing.specs.Path.{laidPath};
 use crate::points::Point;
+
+// 01, "`Path`: a lent table of eight words a command": its kind, then seven words.
+pub struct PathCommand {
+    pub kind: u32,
+    pub w1: u32,
+    pub w2: u32,
+    pub w3: u32,
+    pub w4: u32,
+    pub w5: u32,
+    pub w6: u32,
+    pub w7: u32,
+}
 
 pub fn least(a: usize, b: usize) -> usize
     ensures { λ r. ⌜ r ≡ min a b ⌝ }
@@ -12,13 +25,29 @@ pub fn least(a: usize, b: usize) -> usize
     if a <= b { a } else { b }
 }
 
+// Writes a command at the front of the path, where there is room for it.
+fn put(path: &mut [u32], c: PathCommand)
+    ensures { λ _. ⌜ now (path .exit) ≡ laidPath (now (path .entry)) (c ∷ []) ⌝ }
+{
+    if 8 <= path.len() {
+        path[0] = c.kind;
+        path[1] = c.w1;
+        path[2] = c.w2;
+        path[3] = c.w3;
+        path[4] = c.w4;
+        path[5] = c.w5;
+        path[6] = c.w6;
+        path[7] = c.w7;
+    }
+}
+
 // Writes a command behind the n that there are, where there is room for it. There are far fewer than 65,536: a text has at most 12,288 bytes, and each gives at most two.
-fn emit(r: tag::Record, n: usize, path: &mut [u32]) -> usize
+fn emit(c: PathCommand, n: usize, path: &mut [u32]) -> usize
     requires { ⌜ n < 65536 ⌝ }
-    ensures { λ m. ⌜ Emits (now (path .entry)) n (r ∷ []) m (now (path .exit)) ⌝ }
+    ensures { λ m. ⌜ Emits (now (path .entry)) n (c ∷ []) m (now (path .exit)) ⌝ }
 {
     let start = least(8 * n, path.len());
-    tag::put(&mut path[start..], r);
+    put(&mut path[start..], c);
     n + 1
 }
 
@@ -30,7 +59,7 @@ pub fn move_to(p: Point, n: usize, path: &mut [u32]) -> usize
     let a = float::word_of_f32(p.x);
     let b = float::word_of_f32(p.y);
     emit(
-        tag::Record {
+        PathCommand {
             kind: 1,
             w1: a,
             w2: b,
@@ -52,7 +81,7 @@ pub fn line_to(p: Point, n: usize, path: &mut [u32]) -> usize
     let a = float::word_of_f32(p.x);
     let b = float::word_of_f32(p.y);
     emit(
-        tag::Record {
+        PathCommand {
             kind: 2,
             w1: a,
             w2: b,
@@ -78,7 +107,7 @@ pub fn cubic_to(p: Point, q: Point, r: Point, n: usize, path: &mut [u32]) -> usi
     let e = float::word_of_f32(r.x);
     let f = float::word_of_f32(r.y);
     emit(
-        tag::Record {
+        PathCommand {
             kind: 3,
             w1: a,
             w2: b,
@@ -98,7 +127,7 @@ pub fn close(n: usize, path: &mut [u32]) -> usize
     ensures { λ m. ⌜ Emits (now (path .entry)) n (closed ∷ []) m (now (path .exit)) ⌝ }
 {
     emit(
-        tag::Record {
+        PathCommand {
             kind: 4,
             w1: 0,
             w2: 0,

@@ -17,9 +17,11 @@ use Rattle.lists.specs.declared.Found.{Found}
 use Rattle.lists.specs.declared.Found.the-variants.{Nowhere, At}
 use Rattle.float.specs.Float.{toWord}
 use Rattle.numeral.specs.Numeral.{F32, number, tooLong, f32At}
+use Rattle.rows.specs.Rows.{laidRows}
+use Rattle.rows.proofs.Laws.{rest-is, rest-back}
 use Rattle.tag.specs.Table.{records, encode, laid, bits, tRecord}
 use Rattle.tag.specs.declared.Record.{Record}
-use Rattle.tag.proofs.Table.{length-laid, laid-t, laid-step, rest-is, rest-back}
+use Rattle.tag.proofs.Table.{length-laid, laid-t, laid-step}
 use Rattle.tag.specs.Tag.{T, Tags, and, count}
 use Rattle.tag.proofs.Tags.{encode-append, count-none, count-and, count-length, count-single, count-append}
 use Rattle.plain.specs.Plain.{One, no, long, kept, far, plainAt, orZero, timeOf}
@@ -40,7 +42,7 @@ use Rattle.read.proofs.Walk.{t-more}
 -- ---- a plain tag
 
 told-one : (i : ℕ) (x : One) (t : List ℕ) (most : ℕ) → 1 ≤ most → Single x → Told t (oneGot i x) most (keptGot i (keptOf x)) (laid t (keptRecords (keptOf x)))
-unfolding encode laid records count
+unfolding encode laidRows records count
 told-one i no t most h s = record { out = refl; table = refl; few = omega arith }
 told-one i (long p) t most h s = record { out = refl; table = refl; few = omega arith }
 told-one i (kept x) t most h s = record { out = rw (count-single x s); table = rw s; few = h }
@@ -166,7 +168,7 @@ turning-turn {t₀} {t} {u} {all} {rest} {g} {o} {o′} {r} {k} {most} l e a f =
     }
 
 pub turning-end : {t₀ t : List ℕ} {all : Got} {o : Out} {most : ℕ} → Turning t₀ all nothing t o → o .n ≤ most → Told t₀ all most o t
-unfolding encode laid
+unfolding encode laidRows
 turning-end {t₀} {t} {all} {o} {most} l h =
     let m : keptTags all ≡ o .n = omega (arith, l .count, count-none) in
     let b : all .long ≡ o .long = l .long ∙ first-end (o .long) in

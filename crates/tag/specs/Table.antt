@@ -2,10 +2,10 @@
 use Prim.Native.Nat.{ℕ, _/_}
 use mathlib.Core.List.{List, [], _∷_, _++_}
 use mathlib.Core.Bool.{Bool, true, false}
-use lib.Dec.{leb}
-use lib.Ieee.{Float, binary32, toBits}
-use lib.ListN.{length, drop}
-use Rattle.scan.specs.Scan.{pick}
+use lib.Ieee.{Float}
+use lib.ListN.{length}
+pub use Rattle.rows.specs.Rows.{bits}
+use Rattle.rows.specs.Rows.{laidRows}
 use Rattle.float.specs.Float.{toWord}
 use Rattle.tag.specs.declared.Record.{Record}
 use Rattle.tag.specs.Tag.{Part, Times, absent, times, Rgb, KaraokeKind, Fill, Sweep, Outline, Reset, plain, named, AnimatedTag, Fad, Fade, Pos, Move, Frz, Blur, Fscx, Fscy, Color1, Fs, ClipRect, ClipDrawing, Frx, Fry, Org, Bord, Xbord, Ybord, Shad, Xshad, Yshad, Be, Fax, Fay, IClipRect, IClipDrawing, Color2, Color3, Color4, Alpha, Alpha1, Alpha2, Alpha3, Alpha4, Fsp, Q, An, A, Fn, Fe, R, B, I, U, S, Karaoke, Pbo, P, T, Tags, foldTag, foldTags, count}
@@ -20,10 +20,6 @@ rec k a b c d e f g = record { kind = k; w1 = a; w2 = b; w3 = c; w4 = d; w5 = e;
 
 abbrev pub words : Record → List ℕ
 words r = r .kind ∷ r .w1 ∷ r .w2 ∷ r .w3 ∷ r .w4 ∷ r .w5 ∷ r .w6 ∷ r .w7 ∷ []
-
--- an f32 as its bits
-abbrev pub bits : Float → ℕ
-bits x = toBits binary32 x
 
 abbrev pub flagWord : Bool → ℕ
 flagWord true = 1
@@ -138,9 +134,8 @@ abbrev pub placesOf : List ℕ → ℕ
 placesOf t = length t / width
 
 -- a table with the records written from its front on, as many as it has room for; every word behind them as it was
-unfoldable pub laid : List ℕ → List Record → List ℕ
-laid t [] = t
-laid t (r ∷ rs) = let u = words r ++ laid (drop width t) rs in pick (leb width (length t)) u t
+abbrev pub laid : List ℕ → List Record → List ℕ
+laid t rs = laidRows width words t rs
 
 -- the words of records, one behind the other
 unfoldable pub tableWords : List Record → List ℕ

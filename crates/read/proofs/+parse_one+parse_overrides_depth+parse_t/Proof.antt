@@ -3,7 +3,8 @@ use Prim.Native.Nat.{ℕ, _+_, _-_, _*_, _≤_, _<_}
 use native.Mathlib.Omega.{arith}
 use borrow.Author.Needs.{needs}
 use Rattle.tag.specs.Tag.{count}
-use Rattle.tag.specs.Table.{encode, laid}
+use Rattle.rows.specs.Rows.{laidRows}
+use Rattle.tag.specs.Table.{encode}
 use Rattle.plain.specs.Names.{keyAt, tKey}
 use Rattle.read.specs.Block.{parse}
 use Rattle.read.proofs.Walk.{parse-end, parse-skip, parse-bare, parse-tag, tag-t, tag-plain, t-none, less-left, count-step, next-past}
@@ -332,7 +333,7 @@ parse-overrides-depth-returns t c =
     turning-end (rw k at (l .inv .3)) (search needs)
 
 parse-t-returns : (t : ℕ) → parse-t-lts.Need-returns (calls-t t) (parse-t-at t) parse-t.Post
-unfolding encode laid count
+unfolding encode laidRows count
 parse-t-returns t c = rw (t-none _ _ _ _ (c .if1 .taken)) (record { out = refl; table = refl; few = search needs })
 
 parse-t-peel-requires : (t : ℕ) → parse-t-lts.Need-peel-requires (calls-t t) (parse-t-at t) parse-t.Post

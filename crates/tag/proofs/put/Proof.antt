@@ -1,6 +1,6 @@
 use native.Mathlib.Omega.{arith}
 use lib.ListN.{length-set}
-use Rattle.tag.proofs.Written.{put-room, put-none}
+use Rattle.tag.proofs.Table.{put-room, put-none}
 use borrow.Author.Needs.{needs}
 use Rattle.tag.proofs.put.Statement.{statement}
 use Rattle.tag.proofs.put.Tie as tie

@@ -1,7 +1,7 @@
 use mathlib.Core.Path.{_≡_, subst}
 use mathlib.Core.List.{List, [], _∷_}
 use Prim.Native.Nat.{ℕ}
-use Rattle.tag.specs.declared.Record.{Record}
+use Rattle.drawing.specs.declared.path.PathCommand.{PathCommand}
 use Rattle.drawing.specs.declared.points.Point.{Point}
 use Rattle.drawing.specs.Drawing.{f0, f2, f4, bez, spanEnd, spanOf, cubicTo}
 use Rattle.drawing.specs.Inner.{Emits}
@@ -14,7 +14,7 @@ use Rattle.drawing.proofs.pen.span_to.Tie as tie
 span-emits : {t u : List ℕ} {n m : ℕ} (b c d p q r : Point) → p ≡ bez b f4 c f2 c f0 → q ≡ bez b f2 c f4 c f0 → r ≡ spanEnd b c d → Emits t n (cubicTo p q r ∷ []) m u → Emits t n (spanOf b c d ∷ []) m u
 span-emits {t} {u} {n} {m} b c d p q r x y z w =
     let e : cubicTo p q r ≡ spanOf b c d = rw (x, y, z) in
-    subst (λ (o : Record). Emits t n (o ∷ []) m u) e w
+    subst (λ (o : PathCommand). Emits t n (o ∷ []) m u) e w
 
 bez-requires : tie.Need-bez-requires
 bez-requires c κs = search needs
