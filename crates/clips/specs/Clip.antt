@@ -8,7 +8,7 @@ use denote.Ref.{RefT, now}
 use Rattle.scan.specs.Scan.{pick, inClass, spanTo, trimStart, trimEnd}
 use Rattle.scan.specs.declared.Class.the-variants.{Not}
 use Rattle.numeral.specs.Numeral.{wholeNumber}
-use Rattle.refusal.specs.Refusal.{numberOf, placeOf}
+use Rattle.refusal.specs.Refusal.{numberOf}
 use Rattle.refusal.specs.declared.Checked.{Checked}
 use Rattle.refusal.specs.declared.Checked.the-variants.{Good, Bad}
 use Rattle.refusal.specs.Refusal.{textGround}
@@ -56,14 +56,10 @@ clipOf s = clipBy (textGround s) s
 abbrev pub restOf : List ℕ → Clip → List ℕ
 restOf s c = between s (c .from) (c .to)
 
--- the ground's number, 0 for none; its place
+-- the ground's number, 0 for none
 abbrev pub clipGround : Checked → ℕ
 clipGround Good = 0
 clipGround (Bad r) = numberOf r
-
-abbrev pub clipPlace : Checked → ℕ
-clipPlace Good = 0
-clipPlace (Bad r) = placeOf r
 
 -- a clip argument's parts: what a definition names, its places in order
 pub record ClipIn (s : List ℕ) (d r : Clip) : Type 0 where

@@ -59,7 +59,7 @@ pathAfter (Refused r) t cs = t
 unfoldable pub after : List ℕ → ℕ → List ℕ → List ℕ
 after s exponent t = pathAfter (answer s exponent (placesOf t)) t (drawing s exponent)
 
--- the answer's ground, 0 for none; its place or count; and the value beside it, the commands written
+-- the answer's ground, 0 for none; its place or count
 abbrev pub groundNumber : Drawing → ℕ
 groundNumber (Drawn n) = 0
 groundNumber (Refused r) = numberOf r
@@ -67,10 +67,6 @@ groundNumber (Refused r) = numberOf r
 abbrev pub groundPlace : Drawing → ℕ
 groundPlace (Drawn n) = 0
 groundPlace (Refused r) = placeOf r
-
-abbrev pub commandsDrawn : Drawing → ℕ
-commandsDrawn (Drawn n) = n
-commandsDrawn (Refused r) = 0
 
 -- what `parse_drawing` says: the answer r, and the path table t before and u after
 pub record Answered (s : List ℕ) (exponent : ℕ) (t : List ℕ) (r : Drawing) (u : List ℕ) : Type 0 where

@@ -1,46 +1,79 @@
--- Answers as one number. Bits 48 to 63: 01's number of the ground, 0 for an answer; bits 0 to 31: the value, or the ground's place or count.
--- Places and counts lie below 2 ^ 32: Rattle.read.proofs.Places.
+-- Answers as one number. Bits 48 to 63: 01's number of the ground, 0 for an answer; bits 32 to 47: an extra; bits 0 to 31: the value, or the ground's place or count.
+-- The remainders cut nothing off: Rattle.hannuvel.proofs.Unpacked.
 use mathlib.Core.Path.{_≡_}
 use mathlib.Core.List.{List}
-use Prim.Native.Nat.{ℕ, _+_, _*_, _%_, _^_}
+use Prim.Native.Nat.{ℕ, _+_, _*_, _/_, _%_, _^_}
 use Rattle.refusal.specs.Refusal.{numberOf, placeOf}
 use Rattle.refusal.specs.declared.Refusal.{Refusal}
-use Rattle.read.specs.Reading.{answer, after, groundNumber, groundPlace, recordsRead}
+use Rattle.read.specs.Reading.{answer, after, groundNumber}
 use Rattle.tag.specs.Table.{placesOf}
 use Rattle.read.specs.declared.Reading.{Reading}
+use Rattle.read.specs.declared.Reading.the-variants.{Read, Refused}
 use Rattle.read.specs.declared.Span.{Span}
 use Rattle.refusal.specs.declared.Checked.{Checked}
 use Rattle.refusal.specs.declared.Checked.the-variants.{Good, Bad}
 use Rattle.drawing.specs.Answer as Drawing
-use Rattle.drawing.specs.Answer.{commandsDrawn}
 use Rattle.drawing.specs.declared.Drawing.{Drawing}
+use Rattle.drawing.specs.declared.Drawing.the-variants.{Drawn, Refused as NotDrawn}
+use Rattle.clips.specs.Clip.{clipGround}
 use Rattle.clips.specs.declared.Clip.{Clip}
 
-abbrev pub refusalWord : Refusal → ℕ
-refusalWord r = numberOf r * 2 ^ 48 + placeOf r % 2 ^ 32
+abbrev pub packed : ℕ → ℕ → ℕ → ℕ
+packed ground extra value = ground * 2 ^ 48 + extra % 2 ^ 16 * 2 ^ 32 + value % 2 ^ 32
 
--- an answer by its ground, its place or count, and the records written
+-- `hannuvel_ground`, `hannuvel_extra` and `hannuvel_value` of include/hannuvel.h: answer >> 48, (answer >> 32) & 0xFFFF, answer & 0xFFFFFFFF
+abbrev pub groundOf : ℕ → ℕ
+groundOf w = w / 2 ^ 48
+
+abbrev pub extraOf : ℕ → ℕ
+extraOf w = w / 2 ^ 32 % 2 ^ 16
+
+abbrev pub valueOf : ℕ → ℕ
+valueOf w = w % 2 ^ 32
+
+-- the three give back the ground g, the extra e and the value v
+pub record Unpacks (w g e v : ℕ) : Type 0 where
+  pub ground : groundOf w ≡ g
+  pub extra : extraOf w ≡ e
+  pub value : valueOf w ≡ v
+
+abbrev pub refusalWord : Refusal → ℕ
+refusalWord r = packed (numberOf r) 0 (placeOf r)
+
+-- the records written; for a ground its place or count
+abbrev pub readingValue : Reading → ℕ
+readingValue (Read n) = n
+readingValue (Refused r) = placeOf r
+
 abbrev pub readingWord : Reading → ℕ
-readingWord r = groundNumber r * 2 ^ 48 + (groundPlace r + recordsRead r) % 2 ^ 32
+readingWord r = packed (groundNumber r) 0 (readingValue r)
 
 -- what a reading call says: the number r, and the table t before and u after
 pub record ReadingCall (s : List ℕ) (x : Span) (t : List ℕ) (r : ℕ) (u : List ℕ) : Type 0 where
   pub answered : r ≡ readingWord (answer s x (placesOf t))
   pub table : u ≡ after s x t
 
--- an answer by its ground, its place or count, and the commands written
+-- the commands written; for a ground its place or count
+abbrev pub drawingValue : Drawing → ℕ
+drawingValue (Drawn n) = n
+drawingValue (NotDrawn r) = placeOf r
+
 abbrev pub drawingWord : Drawing → ℕ
-drawingWord d = Drawing.groundNumber d * 2 ^ 48 + (Drawing.groundPlace d + commandsDrawn d) % 2 ^ 32
+drawingWord d = packed (Drawing.groundNumber d) 0 (drawingValue d)
 
 -- what the drawing call says: the number r, and the path table t before and u after
 pub record DrawingCall (s : List ℕ) (exponent : ℕ) (t : List ℕ) (r : ℕ) (u : List ℕ) : Type 0 where
   pub answered : r ≡ drawingWord (Drawing.answer s exponent (Drawing.placesOf t))
   pub path : u ≡ Drawing.after s exponent t
 
--- a clip argument: the scale, and in bits 32 to 47 the offset at which the rest begins
-abbrev pub clipWordBy : Checked → Clip → ℕ
-clipWordBy Good c = c .from % 2 ^ 16 * 2 ^ 32 + c .scale
-clipWordBy (Bad r) c = refusalWord r
+-- a clip argument: the offset at which the rest begins, and the scale; for a ground its place
+abbrev pub clipExtra : Checked → Clip → ℕ
+clipExtra Good c = c .from
+clipExtra (Bad r) c = 0
+
+abbrev pub clipValue : Checked → Clip → ℕ
+clipValue Good c = c .scale
+clipValue (Bad r) c = placeOf r
 
 abbrev pub clipWord : Clip → ℕ
-clipWord c = clipWordBy (c .checked) c
+clipWord c = packed (clipGround (c .checked)) (clipExtra (c .checked) c) (clipValue (c .checked) c)

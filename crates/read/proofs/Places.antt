@@ -1,30 +1,32 @@
 -- Every place and count that an answer names lies within the text.
 use mathlib.Core.Path.{_≡_, refl}
-use mathlib.Core.List.{List, []}
+use mathlib.Core.List.{List}
+use mathlib.Core.Bool.{Bool, true, false}
 use mathlib.Core.Logic.{inl}
 use Prim.Native.Nat.{ℕ, _+_, _-_, _≤_, _<_, min}
 use native.Mathlib.Omega.{arith}
 use native.Mathlib.Nat.{le-refl, le-trans}
 use lib.Dec.{leb}
-use lib.ListN.{length, getD, length-append}
-use Rattle.scan.specs.Scan.{inClass, spanTo}
+use lib.ListN.{length, getD}
+use Rattle.scan.specs.Scan.{pick, inClass, spanTo}
 use Rattle.scan.specs.declared.Class.the-variants.{Below}
 use Rattle.scan.proofs.Laws.{picked}
 use Rattle.refusal.specs.Refusal.{mostBytes, mostPlaces, textGround}
 use Rattle.refusal.specs.declared.Checked.{Checked}
-use Rattle.refusal.specs.declared.Checked.the-variants.{Good}
-use borrow.Author.Tests.{le-leb}
+use Rattle.refusal.specs.declared.Checked.the-variants.{Good, Bad}
+use Rattle.refusal.specs.declared.Refusal.the-variants.{NoRoom}
+use borrow.Author.Tests.{le-leb, leb-true}
 use Rattle.survey.specs.Survey.{slashesTo, Straight}
 use Rattle.survey.proofs.Laws.{unplain-wider, slashes-one, slashes-split, slashes-inside, slashes-most}
 use Rattle.lists.specs.declared.Found.{Found}
-use Rattle.lists.specs.declared.Found.the-variants.{At}
+use Rattle.lists.specs.declared.Found.the-variants.{Nowhere, At}
 use Rattle.tag.specs.Tag.{T, Tags, count}
 use Rattle.tag.proofs.Tags.{count-none, count-single, count-and, count-append}
 use Rattle.plain.specs.Plain.{One}
 use Rattle.plain.proofs.Gives.{Single}
 use Rattle.plain.proofs.Bridge.{plain-single}
 use Rattle.read.specs.declared.Reading.{Reading}
-use Rattle.read.specs.declared.Reading.the-variants.{Read}
+use Rattle.read.specs.declared.Reading.the-variants.{Read, Refused}
 use Rattle.read.proofs.Answer.{good-short}
 use Rattle.read.specs.declared.Span.{Span}
 use Rattle.read.specs.Block.{headTimes, headAccel, Got, nothing as none, join, oneGot, Peel, tOf, parse}
@@ -133,3 +135,31 @@ module _ (s : List ℕ) (x : Span) (places : ℕ) (inside : SpanIn s x) where
     where
       Lies : Checked → Type 0
       Lies c = Within (unlessBad c read)
+
+-- an answer counts at most 1,024 records
+abbrev Few : Reading → Type 0
+Few (Read n) = n ≤ mostPlaces
+Few (Refused r) = Unit
+
+few-ground : (f g : Found) (n places : ℕ) → Few (readGround f g n places)
+unfolding readGround
+few-ground (At p) g n places = tt
+few-ground Nowhere (At p) n places = tt
+few-ground Nowhere Nowhere n places = go (leb n (min places mostPlaces)) refl
+  where
+    go : (b : Bool) → leb n (min places mostPlaces) ≡ b → Few (pick b (Read n) (Refused (NoRoom n)))
+    go true e = omega (arith, leb-true n (min places mostPlaces) e)
+    go false e = tt
+
+few : (s : List ℕ) (x : Span) (places : ℕ) → Few (answer s x places)
+unfolding answer
+few s x places = go (textGround s)
+  where
+    go : (c : Checked) → Few (unlessBad c (readGround (blockOf s x .long) (blockOf s x .far) (keptTags (blockOf s x)) places))
+    go Good = few-ground (blockOf s x .long) (blockOf s x .far) (keptTags (blockOf s x)) places
+    go (Bad r) = tt
+
+pub few-read : (s : List ℕ) (x : Span) (places n : ℕ) → answer s x places ≡ Read n → n ≤ mostPlaces
+few-read s x places n e =
+    let h : Few (Read n) = rw e at (few s x places) in
+    h

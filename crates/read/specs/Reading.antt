@@ -81,7 +81,7 @@ tableAfter (Refused r) t g = t
 unfoldable pub after : List ℕ → Span → List ℕ → List ℕ
 after s x t = tableAfter (answer s x (placesOf t)) t (blockOf s x)
 
--- the answer's ground, 0 for none; its place or count; and the value beside it, the records written
+-- the answer's ground, 0 for none; its place or count
 abbrev pub groundNumber : Reading → ℕ
 groundNumber (Read n) = 0
 groundNumber (Refused r) = numberOf r
@@ -89,10 +89,6 @@ groundNumber (Refused r) = numberOf r
 abbrev pub groundPlace : Reading → ℕ
 groundPlace (Read n) = 0
 groundPlace (Refused r) = placeOf r
-
-abbrev pub recordsRead : Reading → ℕ
-recordsRead (Read n) = n
-recordsRead (Refused r) = 0
 
 -- what a reading call says: the answer r, and the table t before and u after
 pub record Answered (s : List ℕ) (x : Span) (t : List ℕ) (r : Reading) (u : List ℕ) : Type 0 where

@@ -1,3 +1,6 @@
+use Prim.Native.Nat.{_^_, _<_}
+use native.Mathlib.Nat.{mod-eq-of-lt}
+use native.Mathlib.Omega.{arith}
 use borrow.Author.Needs.{needs}
 use Rattle.hannuvel.proofs.packed_clip.Statement.{statement}
 use Rattle.hannuvel.proofs.packed_clip.Tie as tie
@@ -24,7 +27,10 @@ returns : tie.Need-returns
 returns c = rw (c .before .before .checked .given .1) (c .packed-refusal .ensures)
 
 returns-2 : tie.Need-returns-2
-returns-2 c = rw (c .before .before .enum-told .given .1)
+returns-2 c =
+    let scale = c .before .before .before .before .args .c .scale in
+    let h : scale < 2 ^ 32 = search needs in
+    rw (c .before .before .enum-told .given .1, mod-eq-of-lt {n = scale} {m = 2 ^ 32} h) (omega arith)
 
 pub packed-clip-spec : {M : Type 1} → statement M
 packed-clip-spec =
