@@ -1,27 +1,18 @@
 -- Numerals that are too long, and where they stand.
-use mathlib.Core.Path.{_≡_, refl, sym}
-use mathlib.Core.List.{List, [], _∷_, _++_}
-use mathlib.Core.Bool.{Bool, true, false, not, true≢false}
-use mathlib.Core.Logic.{_⊎_, inl, inr, ⊎-elim}
-use Prim.Native.Nat.{ℕ, zero, suc, _+_, _-_, _≤_, _<_}
+use mathlib.Core.Path.{_≡_, refl}
+use mathlib.Core.List.{List}
+use Prim.Native.Nat.{ℕ, _≤_, _<_}
 use native.Mathlib.Omega.{arith}
-use native.Mathlib.Nat.{le-refl, le-trans}
+use native.Mathlib.Nat.{le-trans}
 use lib.Ieee.{Float}
-use lib.ListN.{getD}
-use lib.Dec.{ltb, leb, eqb}
-use borrow.Author.Tests.{le-ltb, ltb-true, ltb-false}
-use Rattle.scan.specs.Scan.{pick, inClass, isBlank, blankAt, blankBefore, span, spanTo, past, skip, skipBack, trimStart, trimEnd}
-use Rattle.scan.specs.declared.Class.the-variants.{Not}
-use Rattle.scan.proofs.Laws.{picked, le-or-lt, span-end, span-high, skip-low, blank-at-fits, blank-before-fits}
-use Rattle.scan.proofs.Bounds.{tested, trim-start-low, trim-end-high}
-use Rattle.numeral.specs.Numeral.{F32, number, tooLong, f32At, f32Of, splitAt, exponentAt, isDigit}
-use Rattle.numeral.specs.declared.Decimal.{Decimal}
-use Rattle.numeral.proofs.Laws.{f32-empty}
+use Rattle.scan.specs.Scan.{trimStart, trimEnd}
+use Rattle.scan.proofs.Bounds.{trim-start-low, trim-end-high}
+use Rattle.numeral.specs.Numeral.{F32, number, tooLong, f32At, f32Of}
 use Rattle.numeral.proofs.Reach.{Bounded, number-in-reach}
 use Rattle.tag.specs.WellFormed.{All, all, more}
-use Rattle.survey.specs.Survey.{Unplain, isStop}
+use Rattle.survey.specs.Survey.{Unplain}
 use Rattle.survey.proofs.Laws.{unplain-wider}
-use Rattle.survey.proofs.Long.{Ends, long-unplain}
+use Rattle.survey.proofs.Long.{Ends, long-first, long-unplain}
 use Rattle.survey.proofs.Fields.{trim-ends}
 use Rattle.lists.specs.Lists.{firstOf}
 use Rattle.lists.specs.declared.Found.{Found}
@@ -60,40 +51,15 @@ pub data F32In (s : List ℕ) (top p q : ℕ) : F32 → Type 0 where
   a-number : {x : Float} → Bounded x → F32In s top p q (number x)
 
 module _ (s : List ℕ) (a b : ℕ) where
-  abbrev d : Decimal
-  d = splitAt s a b
-
-  -- a numeral that is too long is named by its first byte
-  abbrev AtFront : F32 → Type 0
-  AtFront F32.none = Unit
-  AtFront (tooLong k) = k ≡ a
-  AtFront (number x) = Unit
-
-  at-front : AtFront (f32Of s a b)
-  unfolding f32Of
-  at-front =
-      picked AtFront (eqb (d .whole - d .from + (d .end - d .fraction)) 0) _ _ tt
-      (picked AtFront (ltb (d .end) b) _ _ (picked AtFront (exponentAt s (d .end) b) _ _ refl tt)
-      (picked AtFront (leb (d .whole - d .from) 9) _ _ (picked AtFront (leb (d .end - d .fraction) 9) _ _ tt refl) refl))
-
-  -- where there is no text there is no numeral
-  f32-nowhere : b ≤ a → f32Of s a b ≡ F32.none
-  unfolding splitAt
-  f32-nowhere h =
-      let d : splitAt s a b ≡ record { from = a; whole = a; fraction = a; end = a } = simp (le-ltb a b h, span-end isDigit s a b h) in
-      sym (f32-empty s a b (record { from = a; whole = a; fraction = a; end = a }) (sym d) (omega arith))
-
   f32-of-in : (top : ℕ) → b ≤ top → Ends s top b → F32In s top a b (f32Of s a b)
-  f32-of-in top high ends = go (f32Of s a b) refl at-front
+  f32-of-in top high ends = go (f32Of s a b) refl
     where
-      go : (x : F32) → f32Of s a b ≡ x → AtFront x → F32In s top a b x
-      go F32.none e f = no-numeral
-      go (tooLong k) e f =
-          ⊎-elim
-          (λ (h : b ≤ a). absurd (let z : _≡_ {A = ℕ} 0 1 = cc (f32-nowhere h) in omega arith))
-          (λ (h : a < b). too-long k (omega arith) (omega arith) (long-unplain s top a b high ends k e))
-          (le-or-lt b a)
-      go (number x) e f = a-number (number-in-reach s a b x e)
+      go : (x : F32) → f32Of s a b ≡ x → F32In s top a b x
+      go F32.none e = no-numeral
+      go (tooLong k) e =
+          let f = long-first s a b k e in
+          too-long k (omega (arith, f .0)) (omega (arith, f .0, f .1)) (long-unplain s top a b high ends k e)
+      go (number x) e = a-number (number-in-reach s a b x e)
 
 pub f32-wider : {s : List ℕ} {top p a b q : ℕ} {x : F32} → p ≤ a → b ≤ q → F32In s top a b x → F32In s top p q x
 f32-wider l h no-numeral = no-numeral

@@ -13,7 +13,7 @@ use borrow.Author.Tests.{lt-ltb, le-ltb, le-leb, lt-leb, ne-eqb, ltb-true, leb-t
 use Rattle.scan.specs.Scan.{pick, isBlank, span, spanTo, past}
 use Rattle.scan.proofs.Laws.{le-or-lt, zero-or, span-low, span-high, span-end, span-stop, passed-span, picked}
 use Rattle.numeral.specs.declared.Decimal.{Decimal}
-use Rattle.numeral.specs.Numeral.{isDigit, isSign, isMinus, isPoint, isE, value, most, wholeNumber, I32, whole, i32Of, splitAt, exponentAt, F32, tooLong, f32Of}
+use Rattle.numeral.specs.Numeral.{isDigit, isSign, isMinus, isPoint, isE, value, most, wholeNumber, I32, whole, i32Of, splitAt, exponentAt, F32, number, tooLong, mostDigits, f32Of}
 use Rattle.numeral.proofs.Laws.{f32-empty, f32-rest, f32-number, value-below, no-digit-below, no-digit-above}
 use Rattle.survey.specs.Survey.{Ten, isExponent, isStop, endsField, Unplain, ten, exponent}
 
@@ -197,6 +197,39 @@ module _ (s : List ℕ) (top a b : ℕ) (high : b ≤ top) (ends : Ends s top b)
       rest : ¬ (d .whole - d .from + (d .end - d .fraction) ≡ 0) → d .end < b → (t : Bool) → exponentAt s (d .end) b ≡ t → Unplain s top a b
       rest z l true e = exponent-here z l e
       rest z l false e = none (f32-rest s a b d refl z l e)
+
+-- ---- where a numeral that is too long begins
+
+module _ (s : List ℕ) (a b : ℕ) where
+  abbrev at : Decimal
+  at = splitAt s a b
+
+  abbrev AtFront : F32 → Type 0
+  AtFront F32.none = Unit
+  AtFront (tooLong k) = k ≡ a
+  AtFront (number x) = Unit
+
+  at-front : AtFront (f32Of s a b)
+  unfolding f32Of
+  at-front =
+      picked AtFront (eqb (at .whole - at .from + (at .end - at .fraction)) 0) _ _ tt
+      (picked AtFront (ltb (at .end) b) _ _ (picked AtFront (exponentAt s (at .end) b) _ _ refl tt)
+      (picked AtFront (leb (at .whole - at .from) mostDigits) _ _ (picked AtFront (leb (at .end - at .fraction) mostDigits) _ _ tt refl) refl))
+
+  -- where there is no text there is no numeral
+  nowhere : b ≤ a → f32Of s a b ≡ F32.none
+  unfolding splitAt
+  nowhere h =
+      let e : splitAt s a b ≡ record { from = a; whole = a; fraction = a; end = a } = simp (le-ltb a b h, span-end isDigit s a b h) in
+      sym (f32-empty s a b (record { from = a; whole = a; fraction = a; end = a }) (sym e) (omega arith))
+
+  -- it is named by its first byte
+  pub long-first : (k : ℕ) → f32Of s a b ≡ tooLong k → (k ≡ a) × (a < b)
+  long-first k e =
+      ⊎-elim
+      (λ (h : b ≤ a). absurd (let z : _≡_ {A = ℕ} 0 1 = cc (nowhere h) in omega arith))
+      (λ (h : a < b). (rw e at at-front, h))
+      (le-or-lt b a)
 
 -- ---- whole numbers
 

@@ -1,18 +1,15 @@
 -- The tokens of a text: they are no more than its bytes, and a refused one stands in it.
-use mathlib.Core.Path.{_≡_, refl, sym}
+use mathlib.Core.Path.{_≡_, refl}
 use mathlib.Core.List.{List, _∷_}
-use mathlib.Core.Logic.{⊎-elim}
 use Prim.Native.Nat.{ℕ, zero, suc, _+_, _-_, _≤_, _<_}
 use native.Mathlib.Omega.{arith}
-use lib.Dec.{ltb, leb, eqb}
+use lib.Dec.{ltb, eqb}
 use lib.ListN.{length}
-use borrow.Author.Tests.{le-ltb}
 use Rattle.scan.specs.Scan.{blankAt, trimStart, trimEnd}
-use Rattle.scan.proofs.Laws.{picked, le-or-lt, span-end}
+use Rattle.scan.proofs.Laws.{picked}
 use Rattle.scan.proofs.Bounds.{tested, trim-end-high}
-use Rattle.numeral.specs.declared.Decimal.{Decimal}
-use Rattle.numeral.specs.Numeral.{isDigit, F32, none, tooLong, number, splitAt, exponentAt, mostDigits, f32Of, f32At}
-use Rattle.numeral.proofs.Laws.{f32-empty}
+use Rattle.numeral.specs.Numeral.{F32, none, tooLong, number, f32At}
+use Rattle.survey.proofs.Long.{long-first}
 use Rattle.refusal.specs.Refusal.{placeOf}
 use Rattle.refusal.specs.declared.Refusal.{Refusal}
 use Rattle.refusal.specs.declared.Checked.{Checked}
@@ -34,38 +31,6 @@ few s (suc n) i =
 pub few-tokens : (s : List ℕ) (i : ℕ) → length (from s i) ≤ length s - i
 few-tokens s i = few s (length s - i) i
 
--- ---- where a numeral that is too long begins
-
-module _ (s : List ℕ) (a b : ℕ) where
-  abbrev d : Decimal
-  d = splitAt s a b
-
-  abbrev AtFront : F32 → Type 0
-  AtFront none = Unit
-  AtFront (tooLong k) = k ≡ a
-  AtFront (number x) = Unit
-
-  at-front : AtFront (f32Of s a b)
-  unfolding f32Of
-  at-front =
-      picked AtFront (eqb (d .whole - d .from + (d .end - d .fraction)) 0) _ _ tt
-      (picked AtFront (ltb (d .end) b) _ _ (picked AtFront (exponentAt s (d .end) b) _ _ refl tt)
-      (picked AtFront (leb (d .whole - d .from) mostDigits) _ _ (picked AtFront (leb (d .end - d .fraction) mostDigits) _ _ tt refl) refl))
-
-  nowhere : b ≤ a → f32Of s a b ≡ none
-  unfolding splitAt
-  nowhere h =
-      let e : splitAt s a b ≡ record { from = a; whole = a; fraction = a; end = a } = simp (le-ltb a b h, span-end isDigit s a b h) in
-      sym (f32-empty s a b (record { from = a; whole = a; fraction = a; end = a }) (sym e) (omega arith))
-
-  long-before : (k : ℕ) → f32Of s a b ≡ tooLong k → k < b
-  long-before k e =
-      let f : k ≡ a = rw e at at-front in
-      ⊎-elim
-      (λ (h : b ≤ a). absurd (let z : _≡_ {A = ℕ} 0 1 = cc (nowhere h) in omega arith))
-      (λ (h : a < b). omega arith)
-      (le-or-lt b a)
-
 -- ---- where a refused token begins
 
 abbrev StartsBefore : ℕ → Token → Type 0
@@ -83,7 +48,8 @@ token-starts s a b e l h =
     go none q = tt
     go (tooLong k) q =
         let i = trimStart s a b in
-        omega (arith, long-before s i (trimEnd s i b) k q, trim-end-high s i b)
+        let f = long-first s i (trimEnd s i b) k q in
+        omega (arith, f .0, f .1, trim-end-high s i b)
     go (number x) q = tt
 
 word-high : (s : List ℕ) (n i : ℕ) → wordEnd s n i ≤ i + n
