@@ -10,10 +10,10 @@ use lib.Dec.{eqb}
 use lib.Ieee.{Float}
 use borrow.Author.Tests.{eqb-true}
 use lib.ListN.{length, length-append}
-use Rattle.scan.specs.Scan.{pick}
+use Rattle.scan.specs.Scan.{pick, lower}
 use Rattle.tokens.specs.declared.Token.{Token}
 use Rattle.tokens.specs.declared.Token.the-variants.{Letter, Number, Refused, Other}
-use Rattle.tokens.specs.Tokens.{lower, untilLetter}
+use Rattle.tokens.specs.Tokens.{untilLetter}
 use Rattle.tokens.specs.Inner.{rateOf, letterWeight, weight}
 use Rattle.drawing.specs.declared.points.Point.{Point}
 use Rattle.drawing.specs.declared.pen.Ctrl.{Ctrl}

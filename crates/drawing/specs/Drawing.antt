@@ -7,13 +7,13 @@ use lib.Dec.{eqb}
 use lib.IntN.{pos}
 use lib.Ieee.{Float, fin, binary32, add, mul, div, ofInt}
 use lib.ListN.{length}
-use Rattle.scan.specs.Scan.{pick}
+use Rattle.scan.specs.Scan.{pick, lower}
 use Rattle.drawing.specs.declared.path.PathCommand.{PathCommand}
 use Rattle.rows.specs.Rows.{bits}
 use Rattle.drawing.specs.Path.{pathCommand}
 use Rattle.tokens.specs.declared.Token.{Token}
 use Rattle.tokens.specs.declared.Token.the-variants.{Letter, Number, Refused, Other}
-use Rattle.tokens.specs.Tokens.{lower, untilLetter}
+use Rattle.tokens.specs.Tokens.{untilLetter}
 use Rattle.drawing.specs.declared.points.Point.{Point}
 use Rattle.drawing.specs.declared.pen.Ctrl.{Ctrl}
 use Rattle.drawing.specs.declared.pen.Ctrl.the-variants.{One, Two, Three, Span}

@@ -14,9 +14,9 @@ mod pen;
 mod points;
 
 use machine::draw;
-use path::least;
 use refusal::Checked;
 use refusal::Refusal;
+use scan::least;
 
 // The answer of `parse_drawing`: the number of commands written, or the refusal.
 pub enum Drawing {

@@ -50,7 +50,7 @@ pub enum Command {
 fn command_of(b: u8) -> Command
     ensures { λ r. ⌜ r ≡ commandOf b ⌝ }
 {
-    match tokens::lower(b) {
+    match scan::lower(b) {
         109 => Command::Move,
         110 => Command::MoveOpen,
         108 => Command::Line,

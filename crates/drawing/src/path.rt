@@ -1,7 +1,7 @@
 // The commands of a path, and writing them into a lent table.
 ghost use mathlib.Core.Path.{_≡_};
 ghost use mathlib.Core.List.{[], _∷_};
-ghost use Prim.Native.Nat.{_<_, min};
+ghost use Prim.Native.Nat.{_<_};
 ghost use Rattle.drawing.specs.Drawing.{moveTo, lineTo, cubicTo, closed, closesFirst};
 ghost use Rattle.drawing.specs.Inner.{Emits};
 ghost use Rattle.drawing.specs.Path.{laidPath};
@@ -17,12 +17,6 @@ pub struct PathCommand {
     pub w5: u32,
     pub w6: u32,
     pub w7: u32,
-}
-
-pub fn least(a: usize, b: usize) -> usize
-    ensures { λ r. ⌜ r ≡ min a b ⌝ }
-{
-    if a <= b { a } else { b }
 }
 
 // Writes a command at the front of the path, where there is room for it.
@@ -46,7 +40,7 @@ fn emit(c: PathCommand, n: usize, path: &mut [u32]) -> usize
     requires { ⌜ n < 65536 ⌝ }
     ensures { λ m. ⌜ Emits (now (path .entry)) n (c ∷ []) m (now (path .exit)) ⌝ }
 {
-    let start = least(8 * n, path.len());
+    let start = scan::least(8 * n, path.len());
     put(&mut path[start..], c);
     n + 1
 }

@@ -38,17 +38,11 @@ pub fn read_line(line: &mut [u8]) -> usize
     n
 }
 
-fn least(a: usize, b: usize) -> usize
-    ensures { λ r. ⌜ (r ≤ a) × (r ≤ b) ⌝ }
-{
-    if a < b { a } else { b }
-}
-
 // n, but no more than there are.
 pub fn part(n: u32, most: usize) -> usize
     ensures { λ r. ⌜ r ≤ most ⌝ }
 {
-    least(n as usize, most)
+    scan::least(n as usize, most)
 }
 
 // The byte at a place, 0 where there is none.
@@ -92,7 +86,7 @@ fn word(fields: &[u8], p: usize) -> u64
 fn words_of(fields: &[u8], words: &mut [u32]) -> usize
     ensures { λ r. ⌜ Counts r (now (words .exit)) × (r * 9 ≤ length (now (fields .entry))) ⌝ }
 {
-    let most = least(fields.len() / 9, words.len());
+    let most = scan::least(fields.len() / 9, words.len());
     let mut i: usize = 0;
     while i < most {
         let w = word(fields, i * 9);
@@ -109,7 +103,7 @@ fn words_of(fields: &[u8], words: &mut [u32]) -> usize
 fn text_of(digits: &[u8], text: &mut [u8]) -> usize
     ensures { λ r. ⌜ Counts r (now (text .exit)) × (r * 2 ≤ length (now (digits .entry))) ⌝ }
 {
-    let most = least(digits.len() / 2, text.len());
+    let most = scan::least(digits.len() / 2, text.len());
     let mut i: usize = 0;
     while i < most {
         let b = pair(digits, i * 2);
@@ -135,7 +129,7 @@ pub fn parse(line: &[u8], words: &mut [u32], text: &mut [u8]) -> Line
 {
     let name = name_size(line);
     let start = scan::span_back(line, scan::Class::Not(32), 0, line.len());
-    let from = least(name + 1, start);
+    let from = scan::least(name + 1, start);
     let w = words_of(&line[from..start], words);
     let n = text_of(&line[start..], text);
     let whole = from + w * 9 == start && start + n * 2 == line.len();

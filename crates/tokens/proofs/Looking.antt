@@ -10,7 +10,7 @@ use lib.Dec.{leb, ltb, eqb}
 use lib.Ieee.{Float}
 use lib.ListN.{length, getD}
 use borrow.Author.Tests.{le-leb, lt-leb, lt-ltb, ltb-true, eqb-true, leb-true}
-use Rattle.scan.specs.Scan.{pick, within, inClass, isBlank, blankAt, past, trimStart}
+use Rattle.scan.specs.Scan.{pick, within, lower, inClass, isBlank, blankAt, past, trimStart}
 use Rattle.scan.specs.declared.Class.the-variants.{Letter as ALetter}
 use Rattle.scan.proofs.Laws.{le-or-lt}
 use Rattle.numeral.specs.Numeral.{F32, isSign, f32At}
@@ -21,7 +21,7 @@ use Rattle.survey.proofs.Fields.{late-unplain}
 use Rattle.refusal.specs.declared.Checked.the-variants.{Good}
 use Rattle.tokens.specs.declared.Token.{Token}
 use Rattle.tokens.specs.declared.Token.the-variants.{Letter, Number, Refused, Other}
-use Rattle.tokens.specs.Tokens.{lower, spells, inf, infinity, nan, special, oneLetter, numeralToken, tokenOf, wordEnd, tokenEnd, tokens, from, tokensGround}
+use Rattle.tokens.specs.Tokens.{spells, inf, infinity, nan, special, oneLetter, numeralToken, tokenOf, wordEnd, tokenEnd, tokens, from, tokensGround}
 use Rattle.tokens.specs.Inner.{rateOf, letterWeight, weight, Light}
 use Rattle.tokens.proofs.Words.{from-end, from-more}
 

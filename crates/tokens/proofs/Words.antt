@@ -12,13 +12,13 @@ use lib.ListN.{length, getD, drop}
 use lib.Seq.{drop-cons}
 use borrow.Author.Tests.{eq-eqb, ne-eqb, lt-ltb, le-ltb, le-leb, lt-leb, ltb-true}
 use Rattle.scan.specs.Inner.{Passed}
-use Rattle.scan.specs.Scan.{blankAt, trimStart, trimEnd}
+use Rattle.scan.specs.Scan.{lower, blankAt, trimStart, trimEnd}
 use Rattle.scan.proofs.Laws.{picked, skip-low, blank-at-fits}
 use Rattle.numeral.specs.Numeral.{F32, none, tooLong, number, f32At, wordOfF32}
 use Rattle.numeral.specs.declared.Numeral.the-variants.{No, TooLong, Word}
 use Rattle.numeral.proofs.Reach.{number-in-reach}
 use Rattle.tokens.specs.declared.Token.the-variants.{Number, Refused, Other}
-use Rattle.tokens.specs.Tokens.{lower, spells, numeralToken, wordEnd, tokenEnd, tokenOf, tokens, from}
+use Rattle.tokens.specs.Tokens.{spells, numeralToken, wordEnd, tokenEnd, tokenOf, tokens, from}
 
 -- ---- spelling
 

@@ -4,14 +4,14 @@ use mathlib.Core.List.{List, [], _∷_}
 use Prim.Native.Nat.{ℕ, _+_, _*_, _≤_, _<_}
 use lib.Dec.{eqb}
 use lib.ListN.{length}
-use Rattle.scan.specs.Scan.{pick}
+use Rattle.scan.specs.Scan.{pick, lower}
 use Rattle.refusal.specs.declared.Checked.the-variants.{Good}
 use Rattle.survey.specs.Survey.{Unplain}
 use Rattle.tokens.specs.declared.Token.{Token}
 use Rattle.tokens.specs.declared.Token.the-variants.{Letter, Number, Refused, Other}
 use Rattle.tokens.specs.declared.Next.{Next}
 use Rattle.tokens.specs.declared.Next.the-variants.{End, Is}
-use Rattle.tokens.specs.Tokens.{lower, from, untilLetter, tokensGround}
+use Rattle.tokens.specs.Tokens.{from, untilLetter, tokensGround}
 
 -- a token and the place behind it as the tokens from i on
 abbrev pub listed : List ℕ → Next → List Token

@@ -4,7 +4,7 @@ use mathlib.Core.Bool.{Bool, true, false}
 use Prim.Native.Nat.{ℕ, zero, suc, _+_, _-_}
 use lib.Dec.{ltb, eqb}
 use lib.ListN.{length, getD}
-use Rattle.scan.specs.Scan.{pick, within, inClass, blankAt, past, trimStart}
+use Rattle.scan.specs.Scan.{pick, lower, inClass, blankAt, past, trimStart}
 use Rattle.scan.specs.declared.Class.the-variants.{Letter as ALetter}
 use Rattle.numeral.specs.Numeral.{isSign, F32, none, tooLong, number, f32At}
 use Rattle.refusal.specs.declared.Checked.{Checked}
@@ -12,9 +12,6 @@ use Rattle.refusal.specs.declared.Checked.the-variants.{Good, Bad}
 use Rattle.refusal.specs.declared.Refusal.the-variants.{NumeralTooLong}
 use Rattle.tokens.specs.declared.Token.{Token}
 use Rattle.tokens.specs.declared.Token.the-variants.{Letter, Number, Refused, Other}
-
-abbrev pub lower : ℕ → ℕ
-lower b = pick (within 65 90 b) (b + 32) b
 
 -- whether the text from i to e, in lower case, is the word
 unfoldable pub spells : List ℕ → List ℕ → ℕ → ℕ → Bool

@@ -3,7 +3,7 @@ ghost use mathlib.Core.Path.{_≡_};
 ghost use mathlib.Core.Bool.{true};
 ghost use Prim.Native.Nat.{_≤_, _<_};
 ghost use lib.ListN.{length};
-ghost use Rattle.tokens.specs.Tokens.{lower as lowerOf, spells as spellsAt, special as specialAt, oneLetter, tokenOf, tokenEnd, isLetter, from as tokensFrom, tail, tokensGround};
+ghost use Rattle.tokens.specs.Tokens.{spells as spellsAt, special as specialAt, oneLetter, tokenOf, tokenEnd, isLetter, from as tokensFrom, tail, tokensGround};
 ghost use Rattle.tokens.specs.Inner.{Follows, Skips, rateOf, letterWeight, Light, Straight};
 use refusal::Checked;
 use refusal::Refusal;
@@ -22,18 +22,6 @@ pub enum Next {
     Is(Token, usize),
 }
 
-pub fn lower(b: u8) -> u8
-    ensures { λ r. ⌜ r ≡ lowerOf b ⌝ }
-{
-    if b < 65 {
-        return b;
-    }
-    if b <= 90 {
-        return b + 32;
-    }
-    b
-}
-
 // Whether the text from i on, in lower case, is the word.
 fn spells(text: &[u8], i: usize, e: usize, word: &[u8]) -> bool
     requires { ⌜ (i ≤ e) × (e ≤ length (now text)) ⌝ }
@@ -45,7 +33,7 @@ fn spells(text: &[u8], i: usize, e: usize, word: &[u8]) -> bool
         if at >= e {
             return false;
         }
-        if lower(text[at]) != word[j] {
+        if scan::lower(text[at]) != word[j] {
             return false;
         }
         j += 1;
@@ -213,14 +201,14 @@ fn wordy(text: &[u8], a: usize, b: usize) -> bool
 fn rate_of(b: u8) -> usize
     ensures { λ r. ⌜ (r ≡ rateOf b) × (r ≤ 3) ⌝ }
 {
-    if lower(b) == 98 { 1 } else { 3 }
+    if scan::lower(b) == 98 { 1 } else { 3 }
 }
 
 // What a letter weighs, in sixths of a command.
 fn letter_weight(b: u8) -> usize
     ensures { λ r. ⌜ (r ≡ letterWeight b) × (r ≤ 6) ⌝ }
 {
-    match lower(b) {
+    match scan::lower(b) {
         109 => 6,
         99 => 6,
         _ => 0,

@@ -6,7 +6,7 @@ use Rattle.tokens.proofs.letter_weight.Statement.{statement}
 use Rattle.tokens.proofs.letter_weight.Tie as tie
 use Rattle.tokens.proofs.letter_weight.Reads as reads
 use Rattle.tokens.proofs.letter_weight.Lts as lts
-use Rattle.tokens.proofs.lower.Reads as lower-reads
+use Rattle.scan.proofs.lower.Reads as lower-reads
 
 lower-requires : tie.Need-lower-requires
 lower-requires c κs = search needs

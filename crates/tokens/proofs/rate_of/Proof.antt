@@ -5,7 +5,7 @@ use Rattle.tokens.proofs.rate_of.Statement.{statement}
 use Rattle.tokens.proofs.rate_of.Tie as tie
 use Rattle.tokens.proofs.rate_of.Reads as reads
 use Rattle.tokens.proofs.rate_of.Lts as lts
-use Rattle.tokens.proofs.lower.Reads as lower-reads
+use Rattle.scan.proofs.lower.Reads as lower-reads
 
 lower-requires : tie.Need-lower-requires
 lower-requires c κs = search needs
