@@ -12,6 +12,7 @@ use lib.Ieee.Bits.{ofBits-fits}
 use lib.ListN.{length}
 use Rattle.scan.specs.Scan.{pick, trimStart, trimEnd}
 use Rattle.scan.proofs.Laws.{picked, le-or-lt}
+use Rattle.float.specs.Float.{zero as f0, one as f1}
 use Rattle.numeral.specs.Numeral.{F32, tooLong, number, f32At}
 use Rattle.numeral.proofs.Reach.{number-in-reach}
 use Rattle.drawing.specs.declared.path.PathCommand.{PathCommand}
@@ -27,7 +28,7 @@ use Rattle.drawing.specs.declared.pen.Pen.{Pen}
 use Rattle.drawing.specs.declared.machine.Command.{Command}
 use Rattle.drawing.specs.declared.machine.Command.the-variants.{Move, MoveOpen, Line, Cubic, Basis, Close, Unknown}
 use Rattle.tokens.specs.Tokens.{isLetter, special, oneLetter, tokenOf, numeralToken, tokenEnd, tokens, from, untilLetter}
-use Rattle.drawing.specs.Drawing.{f0, f1, f2, f4, scaleOf, scaled, bez, spanOf, moveTo, lineTo, cubicTo, closed, Read1, none1, point, Read3, none3, points, behindNumber, readPoint, behindPoint, readThree, Turn, turned, Gives, splinePoint, byMode, settled, settledBy, pointedBy, curveBy, bareBy, continues, movesBy, command, commandOf, letterTurn, turnOf, walk, start}
+use Rattle.drawing.specs.Drawing.{f2, f4, scaleOf, scaled, bez, spanOf, moveTo, lineTo, cubicTo, closed, Read1, none1, point, Read3, none3, points, behindNumber, readPoint, behindPoint, readThree, Turn, turned, Gives, splinePoint, byMode, settled, settledBy, pointedBy, curveBy, bareBy, continues, movesBy, command, commandOf, letterTurn, turnOf, walk, start}
 use Rattle.drawing.specs.Answer.{drawing}
 use Rattle.drawing.proofs.Within.{Within, most, e0, e1, e2, e4, e5, e6, mul-within, weighed-within, weighed-fits, reach-within}
 

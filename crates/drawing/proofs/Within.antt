@@ -1,17 +1,17 @@
 -- Floats of magnitude at most a whole number, and what the operations of a drawing make of them.
 use mathlib.Core.Path.{_≡_, refl, sym, ap, subst, _∙_}
-use mathlib.Core.Bool.{Bool, true, false, not, cond, _&&_, _||_}
-use Prim.Native.Nat.{ℕ, zero, suc, _+_, _-_, _*_, _/_, _^_, _≤_, _<_}
-use native.Mathlib.Nat.{le-trans, le-of-eq, le-of-lt, mul-one, mul-pos, mul-comm, mul-assoc, add-mul, mul-le-mul, mul-le-mul-right, mul-mul-mul-comm, add-le-add}
+use mathlib.Core.Bool.{Bool, true, false, cond}
+use Prim.Native.Nat.{ℕ, _+_, _-_, _*_, _^_, _≤_, _<_}
+use native.Mathlib.Nat.{le-trans, le-of-eq, mul-one, mul-pos, mul-comm, mul-assoc, add-mul, mul-le-mul, mul-le-mul-right, mul-mul-mul-comm, add-le-add}
 use native.Mathlib.Omega.{arith}
 use lib.IntN.{pos}
-use lib.Dec.{T, lit<, ltb, eqb, ltb→lt, eqb→eq}
-use lib.Ieee.{Float, nan, inf, fin, Format, binary32, prec, emax, low, up, down, size, odd, units, round, neg, lt, le, sum, add, mul, div, unlike, fits}
-use lib.Ieee.Fits.{round-is, and-l, and-r, down-pos, div-fits}
+use lib.Dec.{T, lit<, ltb}
+use lib.Ieee.{Float, nan, inf, fin, binary32, up, down, round, neg, lt, le, sum, add, mul, div, unlike, fits}
+use lib.Ieee.Fits.{down-pos, div-fits}
 use lib.Ieee.Order.{round-mono}
-use lib.Ieee.Nearest.{closest}
 use Rattle.decimal.proofs.Law.{neg-round}
-use Rattle.float.specs.Float.{billion, inReach}
+use Rattle.float.specs.Float.{inReach}
+use Rattle.float.proofs.Reach.{unsigned, round-up, or-le, size-in-reach}
 use Rattle.drawing.specs.Drawing.{f6, weighed}
 
 -- x is finite, of magnitude at most n
@@ -28,33 +28,6 @@ pub record Exact (n : ℕ) : Type 0 where
   pub value : odd * 2 ^ power ≡ n
 
 -- ---- rounding
-
-abbrev unsigned : Float → Bool
-unsigned nan = false
-unsigned (inf s) = not s
-unsigned (fin s m e) = not s
-
-units-up : (f : Format) (q k : ℕ) → T (unsigned (units f false q k))
-unfolding units odd
-units-up f q k = go (ltb (q * 2 ^ k) (2 ^ (low f + suc (emax f)))) q
-  where
-    go : (b : Bool) (q : ℕ) → T (unsigned (cond b (odd (suc (prec f)) false q k (low f)) (inf false)))
-    go true zero = tt
-    go true (suc q) = tt
-    go false q = tt
-
-round-up : (f : Format) (a b : ℕ) → T (unsigned (round f false a b))
-round-up f a b = subst (λ (v : Float). T (unsigned v)) (sym (round-is f false a b)) (units-up f (closest (a * 2 ^ low f) (b * 2 ^ k)) k)
-  where
-    k : ℕ
-    k = size (a * 2 ^ low f / b) - prec f
-
-or-le : (a b : ℕ) (t : Bool) → T (ltb a b || (eqb a b && t)) → a ≤ b
-or-le a b t = go (ltb a b) (ltb→lt a b)
-  where
-    go : (s : Bool) → (T s → a < b) → T (s || (eqb a b && t)) → a ≤ b
-    go true f h = le-of-lt (f tt)
-    go false f h = le-of-eq (eqb→eq a b (and-l (eqb a b) t h))
 
 module _ {n : ℕ} (x : Exact n) where
   below : (v : Float) → T (unsigned v) → T (le v (fin false (x .odd) (pos (x .power)))) → Within n v × Within n (neg v)
@@ -174,19 +147,9 @@ weighed-fits a wa b wb c wc = div-fits binary32 (add binary32 (add binary32 (mul
 
 -- ---- numerals
 
-turned-or : (a b : ℕ) (t : Bool) → T (ltb b a || (eqb a b && t)) → b ≤ a
-turned-or a b t = go (ltb b a) (ltb→lt b a)
-  where
-    go : (s : Bool) → (T s → b < a) → T (s || (eqb a b && t)) → b ≤ a
-    go true f h = le-of-lt (f tt)
-    go false f h = le-of-eq (sym (eqb→eq a b (and-l (eqb a b) t h)))
-
 pub reach-within : (x : Float) → T (inReach x) → Within most x
-unfolding inReach le lt neg
+unfolding inReach le neg
 reach-within nan h = absurd h
 reach-within (inf true) h = absurd h
 reach-within (inf false) h = absurd h
-reach-within (fin true m e) h =
-    le-trans (le-of-eq (sym (mul-one (m * up e)))) (turned-or (1000000000 * down e) (m * up e * 1) true (and-l (le (neg billion) (fin true m e)) (le (fin true m e) billion) h))
-reach-within (fin false m e) h =
-    le-trans (le-of-eq (sym (mul-one (m * up e)))) (or-le (m * up e * 1) (1000000000 * down e) true (and-r (le (neg billion) (fin false m e)) (le (fin false m e) billion) h))
+reach-within (fin s m e) h = size-in-reach s m e h

@@ -8,6 +8,7 @@ use lib.IntN.{pos}
 use lib.Ieee.{Float, fin, binary32, add, mul, div, ofInt}
 use lib.ListN.{length}
 use Rattle.scan.specs.Scan.{pick, lower}
+use Rattle.float.specs.Float.{zero as f0, one as f1}
 use Rattle.drawing.specs.declared.path.PathCommand.{PathCommand}
 use Rattle.rows.specs.Rows.{bits}
 use Rattle.drawing.specs.Path.{pathCommand}
@@ -25,13 +26,7 @@ use Rattle.drawing.specs.declared.machine.Command.the-variants.{Move, Mo
 
 -- ---- numbers
 
--- 0, 1, 2, 4 and 6 as f32
-abbrev pub f0 : Float
-f0 = fin false 0 (pos 0)
-
-abbrev pub f1 : Float
-f1 = fin false 1 (pos 0)
-
+-- 2, 4 and 6 as f32
 abbrev pub f2 : Float
 f2 = fin false 1 (pos 1)
 

@@ -18,7 +18,7 @@ use Rattle.float.specs.Float.{zero as +0, maxZero, billion, inReach, rou
 use Rattle.float.proofs.Sign.{above-cases}
 
 -- neither a NaN nor below zero
-abbrev unsigned : Float → Bool
+abbrev pub unsigned : Float → Bool
 unsigned nan = false
 unsigned (inf s) = not s
 unsigned (fin s m e) = not s
@@ -32,7 +32,7 @@ units-up f q k = go (ltb (q * 2 ^ k) (2 ^ (low f + suc (emax f)))) q
     go true (suc q) = tt
     go false q = tt
 
-round-up : (f : Format) (a b : ℕ) → T (unsigned (round f false a b))
+pub round-up : (f : Format) (a b : ℕ) → T (unsigned (round f false a b))
 round-up f a b = subst (λ (v : Float). T (unsigned v)) (sym (round-is f false a b)) (units-up f (closest (a * 2 ^ low f) (b * 2 ^ k)) k)
   where
     k : ℕ
@@ -51,6 +51,14 @@ swap true e f g t = tt
 swap false true true g t = tt
 swap false true false g t = g tt
 swap false false f g t = absurd t
+
+-- less or equal, as `le` has it
+pub or-le : (a b : ℕ) (t : Bool) → T (ltb a b || (eqb a b && t)) → a ≤ b
+or-le a b t = go (ltb a b) (ltb→lt a b)
+  where
+    go : (s : Bool) → (T s → a < b) → T (s || (eqb a b && t)) → a ≤ b
+    go true f h = le-of-lt (f tt)
+    go false f h = le-of-eq (eqb→eq a b (and-l (eqb a b) t h))
 
 flip : (a b : ℕ) → T (eqb a b) → T (eqb b a)
 flip a b t = subst (λ (x : ℕ). T (eqb b x)) (sym (eqb→eq a b t)) (eqb-refl b)
@@ -100,18 +108,19 @@ module _ (negative : Bool) (digits tens : ℕ) where
   word-fits = toBits-lt binary32 (decimal negative digits tens) (round-fits binary32 negative digits (10 ^ tens))
 
 -- ---- whole numbers
-or-le : (a b : ℕ) (t : Bool) → T (ltb b a || (eqb a b && t)) → b ≤ a
-or-le a b t = go (ltb b a) (ltb→lt b a)
-  where
-    go : (s : Bool) → (T s → b < a) → T (s || (eqb a b && t)) → b ≤ a
-    go true f h = le-of-lt (f tt)
-    go false f h = le-of-eq (sym (eqb→eq a b (and-l (eqb a b) t h)))
-
-size-in-reach : (s : Bool) (m : ℕ) (e : ℤ) → T (inReach (fin s m e)) → m * up e ≤ 1000000000 * down e
+pub size-in-reach : (s : Bool) (m : ℕ) (e : ℤ) → T (inReach (fin s m e)) → m * up e ≤ 1000000000 * down e
 unfolding inReach le neg
-size-in-reach true m e h = le-trans (le-of-eq (sym (mul-one (m * up e)))) (or-le (1000000000 * down e) (m * up e * 1) true (and-l (le (neg billion) (fin true m e)) (le (fin true m e) billion) h))
-size-in-reach false m e h =
-    le-trans (le-of-eq (sym (mul-one (m * up e)))) (or-le (1000000000 * down e) (m * up e * 1) true (swap (ltb (m * up e * 1) (1000000000 * down e)) (eqb (m * up e * 1) (1000000000 * down e)) (eqb (1000000000 * down e) (m * up e * 1)) (flip (m * up e * 1) (1000000000 * down e)) (and-r (le (neg billion) (fin false m e)) (le (fin false m e) billion) h)))
+size-in-reach s m e = go s
+  where
+    low : m * up e * 1 ≤ 1000000000 * down e → m * up e ≤ 1000000000 * down e
+    low h = le-trans (le-of-eq (sym (mul-one (m * up e)))) h
+
+    go : (s : Bool) → T (inReach (fin s m e)) → m * up e ≤ 1000000000 * down e
+    go true h =
+        let a = 1000000000 * down e in
+        let b = m * up e * 1 in
+        low (or-le b a true (swap (ltb b a) (eqb a b) (eqb b a) (flip a b) (and-l (le (neg billion) (fin true m e)) (le (fin true m e) billion) h)))
+    go false h = low (or-le (m * up e * 1) (1000000000 * down e) true (and-r (le (neg billion) (fin false m e)) (le (fin false m e) billion) h))
 
 natAbs-neg : (n : ℕ) → natAbs (negℤ (pos n)) ≡ n
 natAbs-neg zero = refl

@@ -135,7 +135,8 @@ fn halves(x: f32) -> u64
     }
 }
 
-fn least(a: u64, b: u64) -> u64
+// The lesser of two numbers.
+pub fn least(a: u64, b: u64) -> u64
     ensures { λ r. ⌜ r ≡ min a b ⌝ }
 {
     if a < b { a } else { b }

@@ -22,12 +22,6 @@ pub struct Decimal {
     pub end: usize,
 }
 
-fn least(a: u64, b: u64) -> u64
-    ensures { λ r. ⌜ r ≡ min a b ⌝ }
-{
-    if a <= b { a } else { b }
-}
-
 // The number that the digits between two places write behind `start`, at most 10^18.
 fn value(text: &[u8], radix: u8, from: usize, to: usize, start: u64) -> u64
     requires { ⌜ (from ≤ to) × (to ≤ length (now text)) × (0 < radix) × (radix ≤ 16) × (start ≤ most) ⌝ }
@@ -36,7 +30,7 @@ fn value(text: &[u8], radix: u8, from: usize, to: usize, start: u64) -> u64
     let mut i = from;
     let mut a = start;
     while i < to {
-        a = least(
+        a = float::least(
             1000000000000000000,
             a * wide(radix) + wide(scan::digit_of(text[i])),
         );

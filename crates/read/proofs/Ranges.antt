@@ -8,7 +8,7 @@ use native.Mathlib.Nat.{le-refl, le-trans}
 use lib.Ieee.{Float, ofBits, toBits}
 use Rattle.refusal.specs.Refusal.{mostBytes, textGround}
 use Rattle.refusal.specs.declared.Checked.the-variants.{Good}
-use Rattle.float.specs.Float.{inReach}
+use Rattle.float.specs.Float.{one, inReach}
 use Rattle.numeral.proofs.Reach.{Bounded}
 use Rattle.lists.specs.Lists.{firstOf}
 use Rattle.lists.specs.declared.Found.{Found}
@@ -22,7 +22,7 @@ use Rattle.tag.specs.Decode.{f}
 use Rattle.tag.proofs.Decoding.{BackT, Sound, empty, single, nest, sound-append}
 use Rattle.plain.specs.Plain.{One}
 use Rattle.read.specs.declared.Span.{Span}
-use Rattle.read.specs.Block.{oneGot, headTimes, headAccel, one, parse}
+use Rattle.read.specs.Block.{oneGot, headTimes, headAccel, parse}
 use Rattle.read.specs.Reading.{blockOf}
 use Rattle.read.proofs.Words.{Fits, float-fits, cut-fits, cut-back, sound-tag}
 use Rattle.read.proofs.Fine.{Fine, nothing, late, tag, away, plain-fine}

@@ -2,14 +2,13 @@
 -- 01, Reading.
 use mathlib.Core.Path.{_≡_}
 use mathlib.Core.List.{List, [], _∷_}
-use mathlib.Core.Bool.{false}
 use Prim.Native.Nat.{ℕ, zero, suc, _+_, _-_, _≤_}
 use lib.Dec.{ltb, eqb}
-use lib.IntN.{pos}
-use lib.Ieee.{Float, fin}
+use lib.Ieee.{Float}
 use lib.ListN.{getD}
 use Rattle.scan.specs.Scan.{pick, inClass, spanTo, past, trimStart, closingTo}
 use Rattle.scan.specs.declared.Class.the-variants.{Digit, Letter, Not, Neither}
+use Rattle.float.specs.Float.{one}
 use Rattle.numeral.specs.Numeral.{F32, number, tooLong, f32At}
 use Rattle.lists.specs.Lists.{firstOf}
 use Rattle.lists.specs.declared.Found.{Found}
@@ -85,9 +84,6 @@ peel s q (suc n) i =
 
 abbrev pub peelTo : List ℕ → ℕ → ℕ → Peel
 peelTo s p q = let i = trimStart s p q in peel s q (suc (q - i)) i
-
-abbrev pub one : Float
-one = fin false 1 (pos 0)
 
 -- the numbers of a \t: accel alone, both times, or both times and accel
 abbrev pub headTimes : List Float → Times

@@ -3,11 +3,12 @@
 use mathlib.Core.Path.{_≡_, sym, ap, _∙_, subst}
 use mathlib.Core.Logic.{_⊎_, inl, inr, ⊎-elim}
 use Prim.Native.Nat.{ℕ, zero, suc, _+_, _-_, _*_, _/_, _%_, _^_, _≤_, _<_, compare, Ordering, Ordering·lt, Ordering·eq, Ordering·gt}
-use native.Mathlib.Nat.{le-trans, le-of-eq, le-of-lt, lt-of-lt-of-le, lt-of-le-of-lt, not-le-of-lt, eq-zero-or-pos, zero-mul, mul-one, mul-pos, mul-assoc, mul-right-comm, mul-le-mul-right, mul-lt-mul-of-pos-right, eq-of-mul-eq-mul-right, le-div-iff-mul-le, div-lt-iff-lt-mul, div-mul-le-self}
+use native.Mathlib.Nat.{le-trans, le-of-eq, le-of-lt, lt-of-lt-of-le, lt-of-le-of-lt, lt-of-not-le, not-le-of-lt, eq-zero-or-pos, zero-mul, mul-one, mul-pos, mul-assoc, mul-right-comm, mul-le-mul-right, mul-lt-mul-of-pos-right, eq-of-mul-eq-mul-right, le-div-iff-mul-le, div-lt-iff-lt-mul, div-mul-le-self}
+use native.Mathlib.Decide.{decLe}
 use native.Mathlib.Omega.{arith}
-use mathlib.Core.Bool.{Bool, true, false, not, _&&_}
+use mathlib.Core.Bool.{Bool, true, false, _&&_}
 use lib.IntN.{ℤ, pos, negsuc}
-use lib.Dec.{T, lit<, ltb, leb, eqb, leb→le, nleb→lt, ltb→lt}
+use lib.Dec.{T, lit<, ltb, leb, eqb, leb→le, ltb→lt}
 use native.Mathlib.Numerals.{add-one}
 use lib.Pow.{pow-add, pow-pos, pow-mono, pow-lt, shl-lt}
 use lib.Ieee.{Float, nan, inf, fin, binary32, up, down, size, nearest, odd, units, fits, toBits}
@@ -18,13 +19,6 @@ use lib.Ieee.Positive.{positive}
 use Rattle.decimal.proofs.Law.{cmp, Cmp, pow-back}
 use Rattle.root.specs.Root.{square, isqrt, closestRoot, rootUnits, squareUnits, sqrt, Farther, NearestRoot}
 use Rattle.root.proofs.Law.{square-mono, square-back, square-mul, isqrt-is, sqrt-is, start-low, start-high}
-
-le-or-lt : (a b : ℕ) → (a ≤ b) ⊎ (b < a)
-le-or-lt a b = go (leb a b) (leb→le a b) (nleb→lt a b)
-  where
-    go : (t : Bool) → (T t → a ≤ b) → (T (not t) → b < a) → (a ≤ b) ⊎ (b < a)
-    go true f g = inl (f tt)
-    go false f g = inr (g tt)
 
 -- ---- a value that fits is m * 2 ^ j units, with m below 2 ^ 24
 abbrev Grid : ℕ → Type 0
@@ -71,18 +65,18 @@ multiple m j k h = ap (λ (x : ℕ). m * x) (ap (λ (x : ℕ). 2 ^ x) split ∙ 
 
 -- ---- no such value lies between q * 2 ^ k and (q + 1) * 2 ^ k
 gap : (b q k : ℕ) → Grid b → (2 ^ 23 ≤ q) ⊎ (k ≡ 0) → (b ≤ q * 2 ^ k) ⊎ ((q + 1) * 2 ^ k ≤ b)
-gap b q k (m, j, small, is) big = ⊎-elim near far (le-or-lt k j)
+gap b q k (m, j, small, is) big = elim (decLe k j) [ yes h ↦ near h | no h ↦ far (lt-of-not-le h) ]
   where
     near : k ≤ j → (b ≤ q * 2 ^ k) ⊎ ((q + 1) * 2 ^ k ≤ b)
     near h =
         let c = m * 2 ^ (j - k) in
         let e : b ≡ c * 2 ^ k = is ∙ multiple m j k h in
-        ⊎-elim
-        (λ (l : c ≤ q). inl (le-trans (le-of-eq e) (mul-le-mul-right (2 ^ k) l)))
-        (λ (l : q < c). inr (le-trans (mul-le-mul-right (2 ^ k) (next q c l)) (le-of-eq (sym e))))
-        (le-or-lt c q)
+        elim (decLe c q) [
+          yes l ↦ inl (le-trans (le-of-eq e) (mul-le-mul-right (2 ^ k) l))
+        | no l ↦ inr (le-trans (mul-le-mul-right (2 ^ k) (next q c l)) (le-of-eq (sym e)))
+        ]
       where
-        next : (q c : ℕ) → q < c → q + 1 ≤ c
+        next : (q c : ℕ) → ¬ (c ≤ q) → q + 1 ≤ c
         next q c h = omega arith
 
     far : j < k → (b ≤ q * 2 ^ k) ⊎ ((q + 1) * 2 ^ k ≤ b)
@@ -140,15 +134,15 @@ module _ (n m j : ℕ) (range : n < 2 ^ 426) (small : m < 2 ^ 24) (is : n ≡ m 
 
   long : (2 ^ 23 ≤ q) ⊎ (k ≡ 0)
   long =
-      ⊎-elim
-      (λ (h : 24 ≤ size (isqrt n)). inl (le-div-iff-mul-le (pow-pos k) .1 (le-trans (le-of-eq (sym (pow-add 2 23 k))) (size-reaches (isqrt n) (23 + k) (room (size (isqrt n)) h)))))
-      (λ (h : size (isqrt n) < 24). inr (none (size (isqrt n)) h))
-      (le-or-lt 24 (size (isqrt n)))
+      elim (decLe 24 (size (isqrt n))) [
+        yes h ↦ inl (le-div-iff-mul-le (pow-pos k) .1 (le-trans (le-of-eq (sym (pow-add 2 23 k))) (size-reaches (isqrt n) (23 + k) (room (size (isqrt n)) h))))
+      | no h ↦ inr (none (size (isqrt n)) h)
+      ]
     where
       room : (s : ℕ) → 24 ≤ s → 23 + (s - 24) < s
       room s h = omega arith
 
-      none : (s : ℕ) → s < 24 → s - 24 ≡ 0
+      none : (s : ℕ) → ¬ (24 ≤ s) → s - 24 ≡ 0
       none s h = omega arith
 
   k-hi : k ≤ 189

@@ -212,13 +212,29 @@ module _ (p : ℕ → Bool) (s : List ℕ) where
   pub passed-none : (i e : ℕ) → i ≤ e → Passed p s i e i
   passed-none i e h = record { low = le-refl i; high = h; all = λ j a b. absurd (omega arith) }
 
-  pub passed-more : (i e j r : ℕ) → Passed p s i e j → r ≡ j + 1 → r ≤ e → p (getD s j 0) ≡ true → Passed p s i e r
-  passed-more i e j r f q h t =
+  passed-more : {i e j : ℕ} (r : ℕ) → Passed p s i e j → r ≡ j + 1 → r ≤ e → p (getD s j 0) ≡ true → Passed p s i e r
+  passed-more {i} {e} {j} r f q h t =
       record {
         low = omega (arith, f .low);
         high = h;
         all = λ k a b. ⊎-elim (λ (l : j ≤ k). let z : k ≡ j = omega arith in rw z t) (λ (l : k < j). f .all k a l) (le-or-lt j k);
       }
+
+  -- a block of four bytes from j on, tested one after the other
+  module _ {i e j : ℕ} (f : Passed p s i e j) (room : 4 ≤ e - j) (t : p (getD s j 0) ≡ true) where
+    pub passed-1 : Passed p s i e (j + 1)
+    passed-1 = passed-more (j + 1) f refl (omega arith) t
+
+    module _ (u : p (getD s (j + 1) 0) ≡ true) where
+      pub passed-2 : Passed p s i e (j + 2)
+      passed-2 = passed-more (j + 2) passed-1 (omega arith) (omega arith) u
+
+      module _ (v : p (getD s (j + 2) 0) ≡ true) where
+        pub passed-3 : Passed p s i e (j + 3)
+        passed-3 = passed-more (j + 3) passed-2 (omega arith) (omega arith) v
+
+        pub passed-4 : p (getD s (j + 3) 0) ≡ true → Passed p s i e (j + 4)
+        passed-4 w = passed-more (j + 4) passed-3 (omega arith) (omega arith) w
 
   span-over : (n i e : ℕ) → i + n ≤ e → ((j : ℕ) → i ≤ j → j < i + n → p (getD s j 0) ≡ true) → spanTo p s i e ≡ spanTo p s (i + n) e
   span-over zero i e h f = let z : i ≡ i + 0 = omega arith in ap (λ (j : ℕ). spanTo p s j e) z

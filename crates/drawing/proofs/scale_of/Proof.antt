@@ -5,7 +5,8 @@ use native.Mathlib.Nat.{one-mul, mod-eq-of-lt}
 use lib.Pow.{pow-lt}
 use lib.IntN.{pos}
 use lib.Ieee.{Float, binary32, div, ofInt, ofBits}
-use Rattle.drawing.specs.Drawing.{f1, scaleOf}
+use Rattle.float.specs.Float.{one as f1}
+use Rattle.drawing.specs.Drawing.{scaleOf}
 use borrow.Author.Tests.{eq-eqb, ne-eqb}
 use borrow.Author.Needs.{needs}
 use Rattle.drawing.proofs.scale_of.Statement.{statement}

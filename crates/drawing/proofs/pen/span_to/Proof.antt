@@ -3,7 +3,8 @@ use mathlib.Core.List.{List, [], _∷_}
 use Prim.Native.Nat.{ℕ}
 use Rattle.drawing.specs.declared.path.PathCommand.{PathCommand}
 use Rattle.drawing.specs.declared.points.Point.{Point}
-use Rattle.drawing.specs.Drawing.{f0, f2, f4, bez, spanEnd, spanOf, cubicTo}
+use Rattle.float.specs.Float.{zero as f0}
+use Rattle.drawing.specs.Drawing.{f2, f4, bez, spanEnd, spanOf, cubicTo}
 use Rattle.drawing.specs.Inner.{Emits}
 use lib.Ieee.{ofBits}
 use borrow.Author.Needs.{needs}
