@@ -2,20 +2,20 @@
 
 // Writes the answer of a leaf that is lent nothing.
 fn write(r: u64) {
-    stored::write(r, &[]);
+    crate::write(r, &[]);
 }
 
 // Leaves of a text that write eight words.
 fn floats(text: &[u8]) {
     let mut list = [stored::LENT; 8];
     let r = leaves::hannuvel_leaf_floats(text, &mut list);
-    stored::write(r, &list);
+    crate::write(r, &list);
 }
 
 fn ints(text: &[u8]) {
     let mut list = [stored::LENT; 8];
     let r = leaves::hannuvel_leaf_ints(text, &mut list);
-    stored::write(r, &list);
+    crate::write(r, &list);
 }
 
 // Leaves of a text.
@@ -30,7 +30,7 @@ fn of_text(letter: u8, text: &[u8]) {
         b'C' => write(leaves::hannuvel_leaf_colour(text)),
         b'T' => write(leaves::hannuvel_leaf_trim(text)),
         b'P' => write(leaves::hannuvel_leaf_parenthesis(text)),
-        _ => stored::write_unknown(),
+        _ => crate::write_unknown(),
     }
 }
 
@@ -47,7 +47,7 @@ fn of_one(letter: u8, a: u32) {
         b'i' => write(leaves::hannuvel_leaf_nearest_i32(a) as u64),
         b'u' => write(leaves::hannuvel_leaf_nearest_u32(a) as u64),
         b'e' => write(leaves::hannuvel_leaf_in_reach(a) as u64),
-        _ => stored::write_unknown(),
+        _ => crate::write_unknown(),
     }
 }
 
@@ -55,7 +55,7 @@ fn of_one(letter: u8, a: u32) {
 fn of_two(letter: u8, a: u32, b: u32) {
     match letter {
         b'p' => write(leaves::hannuvel_leaf_power(a, b) as u64),
-        _ => stored::write_unknown(),
+        _ => crate::write_unknown(),
     }
 }
 
@@ -64,16 +64,17 @@ fn of_three(letter: u8, a: u32, b: u32, c: u32) {
     match letter {
         b'l' => write(leaves::hannuvel_leaf_lerp(a, b, c) as u64),
         b'c' => write(leaves::hannuvel_leaf_clamp(a, b, c) as u64),
-        _ => stored::write_unknown(),
+        _ => crate::write_unknown(),
     }
 }
 
-pub fn answer(letter: u8, words: &[u32], text: &[u8]) {
+// The answer of the leaf of that letter.
+pub(crate) fn answer(letter: u8, words: &[u32], text: &[u8]) {
     match words.len() {
         0 => of_text(letter, text),
         1 => of_one(letter, words[0]),
         2 => of_two(letter, words[0], words[1]),
         3 => of_three(letter, words[0], words[1], words[2]),
-        _ => stored::write_unknown(),
+        _ => crate::write_unknown(),
     }
 }

@@ -1,39 +1,64 @@
 // Replays a stored list: each line of standard input names a call and gives its words and its text, and standard output has a line for each, with the result and every word that was lent.
 mod leaf;
 
+fn write_word(w: u32) {
+    io::write_all(1, b" ");
+    io::print_hex(1, w as u64, 8);
+}
+
+fn write_words(words: &[u32]) {
+    let mut i: usize = 0;
+    while i < words.len() {
+        write_word(words[i]);
+        i += 1;
+    }
+}
+
+// Writes the answer to a line: the result, then the words that were lent, as the call left them.
+fn write(result: u64, lent: &[u32]) {
+    io::print_hex(1, result, 16);
+    write_words(lent);
+    io::write_all(1, b"\n");
+}
+
+// Writes the answer to a line of another form.
+fn write_unknown() {
+    io::write_all(1, b"?\n");
+}
+
 // A block, on the number of table words and a text.
 fn overrides(words: &[u32], text: &[u8], lent: &mut [u32]) {
     if words.len() != 1 {
-        return stored::write_unknown();
+        return write_unknown();
     }
     let n = stored::part(words[0], lent.len());
     let r = hannuvel::hannuvel_parse_overrides(text, &mut lent[0..n]);
-    stored::write(r, &lent[0..n]);
+    write(r, &lent[0..n]);
 }
 
 // A block in braces, on the number of table words and a text.
 fn raw_block(words: &[u32], text: &[u8], lent: &mut [u32]) {
     if words.len() != 1 {
-        return stored::write_unknown();
+        return write_unknown();
     }
     let n = stored::part(words[0], lent.len());
     let r = hannuvel::hannuvel_parse_raw_block(text, &mut lent[0..n]);
-    stored::write(r, &lent[0..n]);
+    write(r, &lent[0..n]);
 }
 
 // A drawing, on its scale's exponent, the number of path words and a text.
 fn drawing(words: &[u32], text: &[u8], lent: &mut [u32]) {
     if words.len() != 2 {
-        return stored::write_unknown();
+        return write_unknown();
     }
     let n = stored::part(words[1], lent.len());
     let r = hannuvel::hannuvel_parse_drawing(text, words[0], &mut lent[0..n]);
-    stored::write(r, &lent[0..n]);
+    write(r, &lent[0..n]);
 }
 
 // A clip argument.
 fn clip(text: &[u8]) {
-    stored::write(hannuvel::hannuvel_split_clip_arg(text), &[]);
+    write(hannuvel::hannuvel_split_clip_arg(text), &[]);
 }
 
 // Makes a call and writes its answer.
@@ -44,7 +69,7 @@ fn answer(call: u8, leaf: u8, words: &[u32], text: &[u8], lent: &mut [u32]) {
         b'R' => raw_block(words, text, lent),
         b'D' => drawing(words, text, lent),
         b'C' => clip(text),
-        _ => stored::write_unknown(),
+        _ => write_unknown(),
     }
 }
 

@@ -1,4 +1,4 @@
-// Lines of a stored list: calls in, in hexadecimal, and answers out.
+// Lines of a stored list: each names a call and gives its words and its text, in hexadecimal.
 ghost use mathlib.Core.Path.{_≡_};
 ghost use Prim.Native.Nat.{_+_, _*_, _≤_};
 ghost use lib.ListN.{length, getD};
@@ -140,31 +140,6 @@ pub fn parse(line: &[u8], words: &mut [u32], text: &mut [u8]) -> Line
         words: w,
         bytes: n,
     }
-}
-
-fn write_word(w: u32) {
-    io::write_all(1, b" ");
-    io::print_hex(1, w as u64, 8);
-}
-
-fn write_words(words: &[u32]) {
-    let mut i: usize = 0;
-    while i < words.len() {
-        write_word(words[i]);
-        i += 1;
-    }
-}
-
-// Writes the answer to a line: the result, then the words that were lent, as the call left them.
-pub fn write(result: u64, lent: &[u32]) {
-    io::print_hex(1, result, 16);
-    write_words(lent);
-    io::write_all(1, b"\n");
-}
-
-// Writes the answer to a line of another form.
-pub fn write_unknown() {
-    io::write_all(1, b"?\n");
 }
 
 // Room for the words of the longest line: a table of 1,028 records, and eight more.
