@@ -28,7 +28,7 @@ use Rattle.drawing.specs.declared.pen.Pen.{Pen}
 use Rattle.drawing.specs.declared.machine.Command.{Command}
 use Rattle.drawing.specs.declared.machine.Command.the-variants.{Move, MoveOpen, Line, Cubic, Basis, Close, Unknown}
 use Rattle.tokens.specs.Tokens.{isLetter, special, oneLetter, tokenOf, numeralToken, tokenEnd, tokens, from, untilLetter}
-use Rattle.drawing.specs.Drawing.{f2, f4, scaleOf, scaled, bez, spanOf, moveTo, lineTo, cubicTo, closed, Read1, none1, point, Read3, none3, points, behindNumber, readPoint, behindPoint, readThree, Turn, turned, Gives, splinePoint, byMode, settled, settledBy, pointedBy, curveBy, bareBy, continues, movesBy, command, commandOf, letterTurn, turnOf, walk, start}
+use Rattle.drawing.specs.Drawing.{f2, f4, scaleOf, scaled, weighed, bez, spanOf, moveTo, lineTo, cubicTo, closed, Read1, none1, point, Read3, none3, points, behindNumber, readPoint, behindPoint, readThree, Turn, turned, Gives, splinePoint, byMode, settled, settledBy, pointedBy, curveBy, bareBy, continues, movesBy, command, commandOf, letterTurn, turnOf, walk, start}
 use Rattle.drawing.specs.Answer.{drawing}
 use Rattle.drawing.proofs.Within.{Within, most, e0, e1, e2, e4, e5, e6, mul-within, weighed-within, weighed-fits, reach-within}
 
@@ -77,29 +77,21 @@ unfolding toBits
 no-word = record { value = f0; finite = near-zero .within; fits = near-zero .fits; is = refl }
 
 module _ {a b c : Point} (x : NearPoint a) (y : NearPoint b) (z : NearPoint c) where
-  near-141 : NearPoint (bez a f1 b f4 c f1)
-  near-141 =
-      let w = weighed-within 1 4 1 e1 e4 e1 e5 refl f1 f4 f1 (omega arith) (omega arith) (omega arith) in
+  near-bez : (wa wb wc : Float) → ((u v t : Float) → Within most u → Within most v → Within most t → Within most (weighed u wa v wb t wc)) → NearPoint (bez a wa b wb c wc)
+  near-bez wa wb wc w =
       record {
-        x = record { within = w (a .x) (b .x) (c .x) (x .x .within) (y .x .within) (z .x .within); fits = weighed-fits (a .x) f1 (b .x) f4 (c .x) f1 };
-        y = record { within = w (a .y) (b .y) (c .y) (x .y .within) (y .y .within) (z .y .within); fits = weighed-fits (a .y) f1 (b .y) f4 (c .y) f1 };
+        x = record { within = w (a .x) (b .x) (c .x) (x .x .within) (y .x .within) (z .x .within); fits = weighed-fits (a .x) wa (b .x) wb (c .x) wc };
+        y = record { within = w (a .y) (b .y) (c .y) (x .y .within) (y .y .within) (z .y .within); fits = weighed-fits (a .y) wa (b .y) wb (c .y) wc };
       }
+
+  near-141 : NearPoint (bez a f1 b f4 c f1)
+  near-141 = near-bez f1 f4 f1 (weighed-within 1 4 1 e1 e4 e1 e5 refl f1 f4 f1 (omega arith) (omega arith) (omega arith))
 
   near-420 : NearPoint (bez a f4 b f2 c f0)
-  near-420 =
-      let w = weighed-within 4 2 0 e4 e2 e0 e6 refl f4 f2 f0 (omega arith) (omega arith) (omega arith) in
-      record {
-        x = record { within = w (a .x) (b .x) (c .x) (x .x .within) (y .x .within) (z .x .within); fits = weighed-fits (a .x) f4 (b .x) f2 (c .x) f0 };
-        y = record { within = w (a .y) (b .y) (c .y) (x .y .within) (y .y .within) (z .y .within); fits = weighed-fits (a .y) f4 (b .y) f2 (c .y) f0 };
-      }
+  near-420 = near-bez f4 f2 f0 (weighed-within 4 2 0 e4 e2 e0 e6 refl f4 f2 f0 (omega arith) (omega arith) (omega arith))
 
   near-240 : NearPoint (bez a f2 b f4 c f0)
-  near-240 =
-      let w = weighed-within 2 4 0 e2 e4 e0 e6 refl f2 f4 f0 (omega arith) (omega arith) (omega arith) in
-      record {
-        x = record { within = w (a .x) (b .x) (c .x) (x .x .within) (y .x .within) (z .x .within); fits = weighed-fits (a .x) f2 (b .x) f4 (c .x) f0 };
-        y = record { within = w (a .y) (b .y) (c .y) (x .y .within) (y .y .within) (z .y .within); fits = weighed-fits (a .y) f2 (b .y) f4 (c .y) f0 };
-      }
+  near-240 = near-bez f2 f4 f0 (weighed-within 2 4 0 e2 e4 e0 e6 refl f2 f4 f0 (omega arith) (omega arith) (omega arith))
 
 -- the scale is at most 1
 scale-test : Float → Bool
