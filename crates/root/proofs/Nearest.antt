@@ -72,8 +72,8 @@ gap b q k (m, j, small, is) big = elim (decLe k j) [ yes h ↦ near h | no h ↦
         let c = m * 2 ^ (j - k) in
         let e : b ≡ c * 2 ^ k = is ∙ multiple m j k h in
         elim (decLe c q) [
-          yes l ↦ inl (le-trans (le-of-eq e) (mul-le-mul-right (2 ^ k) l))
-        | no l ↦ inr (le-trans (mul-le-mul-right (2 ^ k) (next q c l)) (le-of-eq (sym e)))
+          | yes l ↦ inl (le-trans (le-of-eq e) (mul-le-mul-right (2 ^ k) l))
+          | no l ↦ inr (le-trans (mul-le-mul-right (2 ^ k) (next q c l)) (le-of-eq (sym e)))
         ]
       where
         next : (q c : ℕ) → ¬ (c ≤ q) → q + 1 ≤ c
@@ -135,8 +135,8 @@ module _ (n m j : ℕ) (range : n < 2 ^ 426) (small : m < 2 ^ 24) (is : n ≡ m 
   long : (2 ^ 23 ≤ q) ⊎ (k ≡ 0)
   long =
       elim (decLe 24 (size (isqrt n))) [
-        yes h ↦ inl (le-div-iff-mul-le (pow-pos k) .1 (le-trans (le-of-eq (sym (pow-add 2 23 k))) (size-reaches (isqrt n) (23 + k) (room (size (isqrt n)) h))))
-      | no h ↦ inr (none (size (isqrt n)) h)
+        | yes h ↦ inl (le-div-iff-mul-le (pow-pos k) .1 (le-trans (le-of-eq (sym (pow-add 2 23 k))) (size-reaches (isqrt n) (23 + k) (room (size (isqrt n)) h))))
+        | no h ↦ inr (none (size (isqrt n)) h)
       ]
     where
       room : (s : ℕ) → 24 ≤ s → 23 + (s - 24) < s

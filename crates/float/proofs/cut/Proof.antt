@@ -22,17 +22,8 @@ below c = is-below (c .before .before .args .x) (c .if2 .taken)
 halves-requires : tie.Need-halves-requires
 halves-requires c κs = above c
 
-least-requires : tie.Need-least-requires
-least-requires c κs = search needs
-
-cast-result : tie.Need-cast-result
-cast-result c = search needs
-
 halves-requires-2 : tie.Need-halves-requires-2
 halves-requires-2 c κs = flipped (c .before .before .args .x) (below c)
-
-minus-requires : tie.Need-minus-requires
-minus-requires c κs = search needs
 
 returns : tie.Need-returns
 returns c =
@@ -52,10 +43,7 @@ cut-spec =
     tie.close
     (tie.spec
     halves-requires
-    least-requires
-    cast-result
+    (λ c κs. search needs) (λ c. search needs)
     halves-requires-2
-    minus-requires
-    returns
-    returns-2
-    returns-3)
+    (λ c κs. search needs)
+    returns returns-2 returns-3)

@@ -22,23 +22,8 @@ below c = is-below (c .before .before .args .x) (c .if2 .taken)
 halves-requires : tie.Need-halves-requires
 halves-requires c κs = above c
 
-add-least : tie.Need-add-least
-add-least c = search needs
-
-least-requires : tie.Need-least-requires
-least-requires c κs = search needs
-
-cast-result : tie.Need-cast-result
-cast-result c = search needs
-
 halves-requires-2 : tie.Need-halves-requires-2
 halves-requires-2 c κs = flipped (c .before .before .args .x) (below c)
-
-add-minus : tie.Need-add-minus
-add-minus c = search needs
-
-minus-requires : tie.Need-minus-requires
-minus-requires c κs = search needs
 
 returns : tie.Need-returns
 returns c =
@@ -58,12 +43,7 @@ round-away-spec =
     tie.close
     (tie.spec
     halves-requires
-    add-least
-    least-requires
-    cast-result
+    (λ c. search needs) (λ c κs. search needs) (λ c. search needs)
     halves-requires-2
-    add-minus
-    minus-requires
-    returns
-    returns-2
-    returns-3)
+    (λ c. search needs) (λ c κs. search needs)
+    returns returns-2 returns-3)

@@ -35,12 +35,6 @@ turn c q e =
 loop-holds : tie.Need-loop-holds Inv-loop μ-loop Inv-loop2 μ-loop2
 loop-holds c = ap (λ (o : Float). times (c .args .v / 256) (c .args .x) o) a-one
 
-sub-i : tie.Need-sub-i Inv-loop μ-loop Inv-loop2 μ-loop2
-sub-i c = omega arith
-
-loop-less : tie.Need-loop-less Inv-loop μ-loop Inv-loop2 μ-loop2
-loop-less c = omega arith
-
 loop-again : tie.Need-loop-again Inv-loop μ-loop Inv-loop2 μ-loop2
 loop-again c = times-step (c .before .loop .i) (c .before .before .args .x) (c .before .loop .p) (omega arith) ∙ c .before .loop .inv
 
@@ -49,23 +43,8 @@ loop2-holds c =
     let l = c .before in
     (power-is (l .before .args .x) (l .before .args .v) (l .loop .p) (sym (times-end (l .loop .i) (l .before .args .x) (l .loop .p) (c .loop-test .left)) ∙ l .loop .inv), omega arith)
 
-sub-d : tie.Need-sub-d Inv-loop μ-loop Inv-loop2 μ-loop2
-sub-d c = omega arith
-
-sqrt-f32-requires : tie.Need-sqrt-f32-requires Inv-loop μ-loop Inv-loop2 μ-loop2
-sqrt-f32-requires c κs = search needs
-
-shr-if1 : tie.Need-shr-if1 Inv-loop μ-loop Inv-loop2 μ-loop2
-shr-if1 c = omega arith
-
-loop2-less : tie.Need-loop2-less Inv-loop μ-loop Inv-loop2 μ-loop2
-loop2-less c = omega arith
-
 loop2-again : tie.Need-loop2-again Inv-loop μ-loop Inv-loop2 μ-loop2
 loop2-again c = turn (c .before) (mul binary32 _ _) (if-one _ _ _ (c .if1 .taken))
-
-loop2-less-2 : tie.Need-loop2-less-2 Inv-loop μ-loop Inv-loop2 μ-loop2
-loop2-less-2 c = omega arith
 
 loop2-again-2 : tie.Need-loop2-again-2 Inv-loop μ-loop Inv-loop2 μ-loop2
 loop2-again-2 c = turn (c .before) _ (if-zero _ _ _ (omega (arith, c .if1 .left)))
@@ -77,20 +56,10 @@ pub power-256-spec : {M : Type 1} → statement M
 power-256-spec =
     tie.close
     (tie.spec
-    Inv-loop
-    μ-loop
-    Inv-loop2
-    μ-loop2
-    loop-holds
-    sub-i
-    loop-less
-    loop-again
-    loop2-holds
-    sub-d
-    sqrt-f32-requires
-    shr-if1
-    loop2-less
+    Inv-loop μ-loop Inv-loop2 μ-loop2 loop-holds
+    (λ c. omega arith) (λ c. omega arith)
+    loop-again loop2-holds
+    (λ c. omega arith) (λ c κs. search needs) (λ c. omega arith) (λ c. omega arith)
     loop2-again
-    loop2-less-2
-    loop2-again-2
-    returns)
+    (λ c. omega arith)
+    loop2-again-2 returns)

@@ -26,14 +26,14 @@ clear-spec =
     (λ c. c .before .before .before .loop .inv)
     (λ c. search needs) (λ c. search needs)
     (λ c. let r = c .before .before in let l = r .before .before .before in
-        passed-1 (test (l .before .args .x)) _ (l .loop .inv) (r .before .before .loop-test .taken) (lt-ltb _ _ (r .if1 .left)))
+    passed-1 (test (l .before .args .x)) _ (l .loop .inv) (r .before .before .loop-test .taken) (lt-ltb _ _ (r .if1 .left)))
     (λ c. search needs) (λ c. search needs)
     (λ c. let r = c .before .before in let q = r .before .before in let l = q .before .before .before in
-        passed-2 (test (l .before .args .x)) _ (l .loop .inv) (q .before .before .loop-test .taken) (lt-ltb _ _ (q .if1 .left)) (lt-ltb _ _ (r .if2 .left)))
+    passed-2 (test (l .before .args .x)) _ (l .loop .inv) (q .before .before .loop-test .taken) (lt-ltb _ _ (q .if1 .left)) (lt-ltb _ _ (r .if2 .left)))
     (λ c. search needs) (λ c. search needs)
     (λ c. let r = c .before .before in let q = r .before .before in let p = q .before .before in let l = p .before .before .before in
-        passed-3 (test (l .before .args .x)) _ (l .loop .inv) (p .before .before .loop-test .taken) (lt-ltb _ _ (p .if1 .left)) (lt-ltb _ _ (q .if2 .left)) (lt-ltb _ _ (r .if3 .left)))
+    passed-3 (test (l .before .args .x)) _ (l .loop .inv) (p .before .before .loop-test .taken) (lt-ltb _ _ (p .if1 .left)) (lt-ltb _ _ (q .if2 .left)) (lt-ltb _ _ (r .if3 .left)))
     (λ c. search needs) (λ c. search needs)
     (λ c. let r = c .before .before in let q = r .before .before in let p = q .before .before in let l = p .before .before .before in
-        passed-4 (test (l .before .args .x)) _ (l .loop .inv) (p .before .before .loop-test .taken) (lt-ltb _ _ (p .if1 .left)) (lt-ltb _ _ (q .if2 .left)) (lt-ltb _ _ (r .if3 .left)) (lt-ltb _ _ (c .if4 .left)))
+    passed-4 (test (l .before .args .x)) _ (l .loop .inv) (p .before .before .loop-test .taken) (lt-ltb _ _ (p .if1 .left)) (lt-ltb _ _ (q .if2 .left)) (lt-ltb _ _ (r .if3 .left)) (lt-ltb _ _ (c .if4 .left)))
     (λ c. c .before .loop .inv))

@@ -3,33 +3,6 @@ use borrow.Author.Needs.{needs}
 use Rattle.scan.proofs.has.Statement.{statement}
 use Rattle.scan.proofs.has.Tie as tie
 
-enum-known-class : tie.Need-enum-known-class
-enum-known-class c = search needs
-
-is-digit-requires : tie.Need-is-digit-requires
-is-digit-requires c κs = search needs
-
-enum-told : tie.Need-enum-told
-enum-told c = search needs
-
-is-letter-requires : tie.Need-is-letter-requires
-is-letter-requires c κs = search needs
-
-enum-known-class-2 : tie.Need-enum-known-class-2
-enum-known-class-2 c = search needs
-
-enum-known-class-3 : tie.Need-enum-known-class-3
-enum-known-class-3 c = search needs
-
-enum-known-class-4 : tie.Need-enum-known-class-4
-enum-known-class-4 c = search needs
-
-enum-known-class-5 : tie.Need-enum-known-class-5
-enum-known-class-5 c = search needs
-
-enum-known-class-6 : tie.Need-enum-known-class-6
-enum-known-class-6 c = search needs
-
 returns : tie.Need-returns
 returns c = rw (c .before .before .class .given .1) (c .is-digit .ensures)
 
@@ -61,21 +34,6 @@ pub has-spec : {M : Type 1} → statement M
 has-spec =
     tie.close
     (tie.spec
-    enum-known-class
-    is-digit-requires
-    enum-told
-    is-letter-requires
-    enum-known-class-2
-    enum-known-class-3
-    enum-known-class-4
-    enum-known-class-5
-    enum-known-class-6
-    returns
-    returns-2
-    returns-3
-    returns-4
-    returns-5
-    returns-6
-    returns-7
-    returns-8
-    returns-9)
+    (λ c. search needs) (λ c κs. search needs) (λ c. search needs) (λ c κs. search needs) (λ c. search needs)
+    (λ c. search needs) (λ c. search needs) (λ c. search needs) (λ c. search needs)
+    returns returns-2 returns-3 returns-4 returns-5 returns-6 returns-7 returns-8 returns-9)

@@ -14,28 +14,10 @@ Inv-loop text class from to e₀ e = (from ≤ e) × (e ≤ to) × (backTo (inCl
 abbrev μ-loop : tie.MeasureT-loop
 μ-loop text class from to e₀ e = e - from
 
-loop-holds : tie.Need-loop-holds Inv-loop μ-loop
-loop-holds c = search needs
-
-sub-has : tie.Need-sub-has Inv-loop μ-loop
-sub-has c = search needs
-
-shared-slice-read-has : tie.Need-shared-slice-read-has Inv-loop μ-loop
-shared-slice-read-has c = search needs
-
-has-requires : tie.Need-has-requires Inv-loop μ-loop
-has-requires c κs = search needs
-
 returns : tie.Need-returns Inv-loop μ-loop
 returns c =
     let l = c .before .before .before .before in
     record { is = sym (l .loop .inv .2 ∙ back-stop _ _ _ _ (search needs) (sym (c .before .has .ensures) ∙ not-true _ (c .if1 .taken))); low = search needs; high = search needs }
-
-sub-e : tie.Need-sub-e Inv-loop μ-loop
-sub-e c = search needs
-
-loop-less : tie.Need-loop-less Inv-loop μ-loop
-loop-less c = search needs
 
 loop-again : tie.Need-loop-again Inv-loop μ-loop
 loop-again c =
@@ -49,14 +31,8 @@ pub span-back-spec : {M : Type 1} → statement M
 span-back-spec =
     tie.close
     (tie.spec
-    Inv-loop
-    μ-loop
-    loop-holds
-    sub-has
-    shared-slice-read-has
-    has-requires
+    Inv-loop μ-loop
+    (λ c. search needs) (λ c. search needs) (λ c. search needs) (λ c κs. search needs)
     returns
-    sub-e
-    loop-less
-    loop-again
-    returns-2)
+    (λ c. search needs) (λ c. search needs)
+    loop-again returns-2)

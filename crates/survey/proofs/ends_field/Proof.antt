@@ -9,21 +9,6 @@ use Rattle.scan.proofs.past.Reads as past-reads
 use Rattle.scan.proofs.span.Reads as span-reads
 use Rattle.survey.proofs.is_stop.Reads as is-stop-reads
 
-add-past : tie.Need-add-past
-add-past c = search needs
-
-past-requires : tie.Need-past-requires
-past-requires c κs = search needs
-
-span-requires : tie.Need-span-requires
-span-requires c κs = search needs
-
-shared-slice-read-is-stop : tie.Need-shared-slice-read-is-stop
-shared-slice-read-is-stop c = search needs
-
-is-stop-requires : tie.Need-is-stop-requires
-is-stop-requires c κs = search needs
-
 returns : tie.Need-returns
 unfolding endsField
 returns c =
@@ -38,10 +23,6 @@ pub ends-field-spec : {M : Type 1} → statement M
 ends-field-spec =
     tie.close
     (tie.spec
-    add-past
-    past-requires
-    span-requires
-    shared-slice-read-is-stop
-    is-stop-requires
-    returns
-    returns-2)
+    (λ c. search needs) (λ c κs. search needs) (λ c κs. search needs) (λ c. search needs)
+    (λ c κs. search needs)
+    returns returns-2)

@@ -3,8 +3,8 @@ use mathlib.Core.Bool.{true, true≢false}
 use mathlib.Core.Logic.{⊎-elim}
 use Prim.Native.Nat.{ℕ, _+_, _-_, _≤_, _<_}
 use native.Mathlib.Omega.{arith}
+use borrow.Author.Count.{below-more}
 use borrow.Author.Needs.{needs}
-use Rattle.scan.proofs.Laws.{le-or-lt}
 use Rattle.survey.specs.Survey.{Exponent, endsField}
 use Rattle.survey.proofs.harmless.Statement.{statement}
 use Rattle.survey.proofs.harmless.Tie as tie
@@ -14,75 +14,39 @@ use Rattle.survey.proofs.ends_field.Reads as ends-field-reads
 use Rattle.survey.proofs.is_exponent.Reads as is-exponent-reads
 
 abbrev Inv-loop : tie.InvT-loop
-Inv-loop text from to i₀ i = (from ≤ i) × (i ≤ to) × ((j : ℕ) → from ≤ j → j < i → Exponent text j → endsField text (j + 1) to ≡ true → ⊥)
+Inv-loop text from to i₀ i = (from ≤ i) × (i ≤ to) × ((j : ℕ) → j < i → from ≤ j → Exponent text j → endsField text (j + 1) to ≡ true → ⊥)
 
 abbrev μ-loop : tie.MeasureT-loop
 μ-loop text from to i₀ i = to - i
 
 loop-holds : tie.Need-loop-holds Inv-loop μ-loop
-loop-holds c = (search needs, search needs, λ j a b. absurd (omega arith))
-
-sub-loop : tie.Need-sub-loop Inv-loop μ-loop
-sub-loop c = search needs
-
-shared-slice-read-a : tie.Need-shared-slice-read-a Inv-loop μ-loop
-shared-slice-read-a c = search needs
-
-add-k : tie.Need-add-k Inv-loop μ-loop
-add-k c = search needs
-
-shared-slice-read-b : tie.Need-shared-slice-read-b Inv-loop μ-loop
-shared-slice-read-b c = search needs
-
-is-exponent-requires : tie.Need-is-exponent-requires Inv-loop μ-loop
-is-exponent-requires c κs = search needs
-
-ends-field-requires : tie.Need-ends-field-requires Inv-loop μ-loop
-ends-field-requires c κs = search needs
+loop-holds c = (search needs, search needs, λ j b a. absurd (omega arith))
 
 returns : tie.Need-returns Inv-loop μ-loop
 returns c h = absurd (true≢false (sym h))
-
-add-i : tie.Need-add-i Inv-loop μ-loop
-add-i c = search needs
-
-loop-less : tie.Need-loop-less Inv-loop μ-loop
-loop-less c = search needs
 
 loop-again : tie.Need-loop-again Inv-loop μ-loop
 loop-again c =
     let l = c .before .before .before .before .before .loop in (
       search needs,
       search needs,
-      λ j a b x y. ⊎-elim
-          (λ (h : l .i ≤ j).
-          let z : j ≡ l .i = omega arith in
-          ⊎-elim
-          (λ w. true≢false (sym y ∙ rw z (sym (w .1 .ensures) ∙ w .2 .left)))
-          (λ w. true≢false (sym x ∙ rw z (sym (c .before .is-exponent .ensures) ∙ w .left)))
-          (c .if1 .came))
-          (λ (h : j < l .i). l .inv .2 j a h x y)
-          (le-or-lt (l .i) j),
+      below-more _ (l .i) (l .inv .2)
+          (λ a x y. ⊎-elim
+          (λ w. true≢false (sym y ∙ sym (w .1 .ensures) ∙ w .2 .left))
+          (λ w. true≢false (sym x ∙ sym (c .before .is-exponent .ensures) ∙ w .left))
+          (c .if1 .came)),
     )
 
 returns-2 : tie.Need-returns-2 Inv-loop μ-loop
-returns-2 c h j a b x y = c .before .loop .inv .2 j a (omega arith) x y
+returns-2 c h j a b x y = c .before .loop .inv .2 j (omega arith) a x y
 
 pub harmless-spec : {M : Type 1} → statement M
 harmless-spec =
     tie.close
     (tie.spec
-    Inv-loop
-    μ-loop
-    loop-holds
-    sub-loop
-    shared-slice-read-a
-    add-k
-    shared-slice-read-b
-    is-exponent-requires
-    ends-field-requires
+    Inv-loop μ-loop loop-holds
+    (λ c. search needs) (λ c. search needs) (λ c. search needs) (λ c. search needs) (λ c κs. search needs)
+    (λ c κs. search needs)
     returns
-    add-i
-    loop-less
-    loop-again
-    returns-2)
+    (λ c. search needs) (λ c. search needs)
+    loop-again returns-2)

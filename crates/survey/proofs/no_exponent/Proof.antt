@@ -3,8 +3,8 @@ use mathlib.Core.Bool.{true, true≢false}
 use mathlib.Core.Logic.{⊎-elim}
 use Prim.Native.Nat.{ℕ, _+_, _-_, _≤_, _<_}
 use native.Mathlib.Omega.{arith}
+use borrow.Author.Count.{below-more}
 use borrow.Author.Needs.{needs}
-use Rattle.scan.proofs.Laws.{le-or-lt}
 use Rattle.survey.specs.Survey.{Exponent}
 use Rattle.survey.proofs.no_exponent.Statement.{statement}
 use Rattle.survey.proofs.no_exponent.Tie as tie
@@ -13,34 +13,13 @@ use Rattle.survey.proofs.no_exponent.Lts as lts
 use Rattle.survey.proofs.is_exponent.Reads as is-exponent-reads
 
 abbrev Inv-loop : tie.InvT-loop
-Inv-loop text from to none₀ i₀ none i = (from ≤ i) × (i ≤ to) × (none ≡ true → (j : ℕ) → from ≤ j → j < i → Exponent text j → ⊥)
+Inv-loop text from to none₀ i₀ none i = (from ≤ i) × (i ≤ to) × (none ≡ true → (j : ℕ) → j < i → from ≤ j → Exponent text j → ⊥)
 
 abbrev μ-loop : tie.MeasureT-loop
 μ-loop text from to none₀ i₀ none i = to - i
 
 loop-holds : tie.Need-loop-holds Inv-loop μ-loop
-loop-holds c = (search needs, search needs, λ e j a b. absurd (omega arith))
-
-sub-loop : tie.Need-sub-loop Inv-loop μ-loop
-sub-loop c = search needs
-
-shared-slice-read-a : tie.Need-shared-slice-read-a Inv-loop μ-loop
-shared-slice-read-a c = search needs
-
-add-k : tie.Need-add-k Inv-loop μ-loop
-add-k c = search needs
-
-shared-slice-read-b : tie.Need-shared-slice-read-b Inv-loop μ-loop
-shared-slice-read-b c = search needs
-
-is-exponent-requires : tie.Need-is-exponent-requires Inv-loop μ-loop
-is-exponent-requires c κs = search needs
-
-add-i : tie.Need-add-i Inv-loop μ-loop
-add-i c = search needs
-
-loop-less : tie.Need-loop-less Inv-loop μ-loop
-loop-less c = search needs
+loop-holds c = (search needs, search needs, λ e j b a. absurd (omega arith))
 
 loop-again : tie.Need-loop-again Inv-loop μ-loop
 loop-again c =
@@ -49,33 +28,20 @@ loop-again c =
       search needs,
       λ e. ⊎-elim
           (λ w. absurd (let z : _≡_ {A = ℕ} 0 1 = cc (w .1, e) in omega arith))
-          (λ w j a b x. ⊎-elim
-          (λ (h : l .i ≤ j).
-          let z : j ≡ l .i = omega arith in
-          true≢false (sym x ∙ rw z (sym (c .before .is-exponent .ensures) ∙ w .0 .left)))
-          (λ (h : j < l .i). l .inv .2 (sym (w .1) ∙ e) j a h x)
-          (le-or-lt (l .i) j))
+          (λ w. below-more _ (l .i) (l .inv .2 (sym (w .1) ∙ e)) (λ a x. true≢false (sym x ∙ sym (c .before .is-exponent .ensures) ∙ w .0 .left)))
           (c .if1 .came),
     )
 
 returns : tie.Need-returns Inv-loop μ-loop
 returns c =
     let l = c .before .loop in
-    λ e j a b x. l .inv .2 e j a (omega arith) x
+    λ e j a b x. l .inv .2 e j (omega arith) a x
 
 pub no-exponent-spec : {M : Type 1} → statement M
 no-exponent-spec =
     tie.close
     (tie.spec
-    Inv-loop
-    μ-loop
-    loop-holds
-    sub-loop
-    shared-slice-read-a
-    add-k
-    shared-slice-read-b
-    is-exponent-requires
-    add-i
-    loop-less
-    loop-again
-    returns)
+    Inv-loop μ-loop loop-holds
+    (λ c. search needs) (λ c. search needs) (λ c. search needs) (λ c. search needs) (λ c κs. search needs)
+    (λ c. search needs) (λ c. search needs)
+    loop-again returns)

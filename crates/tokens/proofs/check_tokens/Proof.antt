@@ -14,23 +14,8 @@ Inv-loop text i₀ i = (i ≤ length text) × (tokensGround (from text 0) ≡ to
 abbrev μ-loop : tie.MeasureT-loop
 μ-loop text i₀ i = length text - i
 
-loop-holds : tie.Need-loop-holds Inv-loop μ-loop
-loop-holds c = search needs
-
-next-token-requires : tie.Need-next-token-requires Inv-loop μ-loop
-next-token-requires c κs = search needs
-
-enum-told : tie.Need-enum-told Inv-loop μ-loop
-enum-told c = search needs
-
 returns : tie.Need-returns Inv-loop μ-loop
 returns c = sym (c .before .before .before .loop .inv .1 ∙ ground-end (c .before .before .next-token .ensures) (c .enum-told .given .1))
-
-enum-known-next : tie.Need-enum-known-next Inv-loop μ-loop
-enum-known-next c = search needs
-
-enum-known-t : tie.Need-enum-known-t Inv-loop μ-loop
-enum-known-t c = search needs
 
 returns-2 : tie.Need-returns-2 Inv-loop μ-loop
 returns-2 c = sym (c .before .before .before .before .before .before .before .loop .inv .1 ∙ ground-stop _ (next-is (c .before .before .before .before .before .before .next-token .ensures) (c .before .before .before .before .next .given .1)) (c .before .t .given .1))
@@ -45,14 +30,8 @@ pub check-tokens-spec : {M : Type 1} → statement M
 check-tokens-spec =
     tie.close
     (tie.spec
-    Inv-loop
-    μ-loop
-    loop-holds
-    next-token-requires
-    enum-told
+    Inv-loop μ-loop
+    (λ c. search needs) (λ c κs. search needs) (λ c. search needs)
     returns
-    enum-known-next
-    enum-known-t
-    returns-2
-    loop-less
-    loop-again)
+    (λ c. search needs) (λ c. search needs)
+    returns-2 loop-less loop-again)

@@ -14,23 +14,8 @@ Inv-loop text i at₀ at = (i ≤ at) × (at ≤ length text) × (untilLetter (f
 abbrev μ-loop : tie.MeasureT-loop
 μ-loop text i at₀ at = length text - at
 
-loop-holds : tie.Need-loop-holds Inv-loop μ-loop
-loop-holds c = search needs
-
-next-token-requires : tie.Need-next-token-requires Inv-loop μ-loop
-next-token-requires c κs = search needs
-
-enum-told : tie.Need-enum-told Inv-loop μ-loop
-enum-told c = search needs
-
 returns : tie.Need-returns Inv-loop μ-loop
 returns c = record { is = sym (c .before .before .before .loop .inv .2 ∙ until-end (c .before .before .next-token .ensures) (c .enum-told .given .1)); low = search needs; high = search needs }
-
-enum-known-next : tie.Need-enum-known-next Inv-loop μ-loop
-enum-known-next c = search needs
-
-is-letter-requires : tie.Need-is-letter-requires Inv-loop μ-loop
-is-letter-requires c κs = search needs
 
 returns-2 : tie.Need-returns-2 Inv-loop μ-loop
 returns-2 c = record { is = sym (c .before .before .before .before .before .before .loop .inv .2 ∙ until-stop (next-is (c .before .before .before .before .before .next-token .ensures) (c .before .before .before .next .given .1)) (sym (c .before .is-letter .ensures) ∙ c .if1 .taken)); low = search needs; high = search needs }
@@ -45,14 +30,8 @@ pub skip-tail-spec : {M : Type 1} → statement M
 skip-tail-spec =
     tie.close
     (tie.spec
-    Inv-loop
-    μ-loop
-    loop-holds
-    next-token-requires
-    enum-told
+    Inv-loop μ-loop
+    (λ c. search needs) (λ c κs. search needs) (λ c. search needs)
     returns
-    enum-known-next
-    is-letter-requires
-    returns-2
-    loop-less
-    loop-again)
+    (λ c. search needs) (λ c κs. search needs)
+    returns-2 loop-less loop-again)

@@ -14,29 +14,11 @@ Inv-loop text i at₀ at = (at ≤ length text) × (tokensGround (tail (from tex
 abbrev μ-loop : tie.MeasureT-loop
 μ-loop text i at₀ at = length text - at
 
-loop-holds : tie.Need-loop-holds Inv-loop μ-loop
-loop-holds c = search needs
-
-next-token-requires : tie.Need-next-token-requires Inv-loop μ-loop
-next-token-requires c κs = search needs
-
-enum-told : tie.Need-enum-told Inv-loop μ-loop
-enum-told c = search needs
-
 returns : tie.Need-returns Inv-loop μ-loop
 returns c = sym (c .before .before .before .loop .inv .1 ∙ tail-end (c .before .before .next-token .ensures) (c .enum-told .given .1))
 
-enum-known-next : tie.Need-enum-known-next Inv-loop μ-loop
-enum-known-next c = search needs
-
-is-letter-requires : tie.Need-is-letter-requires Inv-loop μ-loop
-is-letter-requires c κs = search needs
-
 returns-2 : tie.Need-returns-2 Inv-loop μ-loop
 returns-2 c = sym (c .before .before .before .before .before .before .loop .inv .1 ∙ tail-stop (next-is (c .before .before .before .before .before .next-token .ensures) (c .before .before .before .next .given .1)) (sym (c .before .is-letter .ensures) ∙ c .if1 .taken))
-
-enum-known-t : tie.Need-enum-known-t Inv-loop μ-loop
-enum-known-t c = search needs
 
 returns-3 : tie.Need-returns-3 Inv-loop μ-loop
 returns-3 c = sym (c .before .before .before .before .before .before .before .before .before .loop .inv .1 ∙ tail-refused _ (next-is (c .before .before .before .before .before .before .before .before .next-token .ensures) (c .before .before .before .before .before .before .next .given .1)) (c .before .t .given .1))
@@ -54,16 +36,10 @@ pub tail-ground-spec : {M : Type 1} → statement M
 tail-ground-spec =
     tie.close
     (tie.spec
-    Inv-loop
-    μ-loop
-    loop-holds
-    next-token-requires
-    enum-told
+    Inv-loop μ-loop
+    (λ c. search needs) (λ c κs. search needs) (λ c. search needs)
     returns
-    enum-known-next
-    is-letter-requires
+    (λ c. search needs) (λ c κs. search needs)
     returns-2
-    enum-known-t
-    returns-3
-    loop-less
-    loop-again)
+    (λ c. search needs)
+    returns-3 loop-less loop-again)

@@ -5,9 +5,6 @@ use borrow.Author.Needs.{needs}
 use Rattle.drawing.proofs.machine.command_of.Statement.{statement}
 use Rattle.drawing.proofs.machine.command_of.Tie as tie
 
-lower-requires : tie.Need-lower-requires
-lower-requires c κs = search needs
-
 returns : tie.Need-returns
 unfolding commandOf
 returns c = rw (sym (c .before .lower .ensures) ∙ c .match .keys1)
@@ -44,12 +41,5 @@ pub command-of-spec : {M : Type 1} → statement M
 command-of-spec =
     tie.close
     (tie.spec
-    lower-requires
-    returns
-    returns-2
-    returns-3
-    returns-4
-    returns-5
-    returns-6
-    returns-7
-    returns-8)
+    (λ c κs. search needs)
+    returns returns-2 returns-3 returns-4 returns-5 returns-6 returns-7 returns-8)

@@ -26,18 +26,6 @@ loop-holds : tie.Need-loop-holds Inv-loop μ-loop
 unfolding ofBits
 loop-holds c = (search needs, search needs, refl, λ v m e. e, refl)
 
-next-token-requires : tie.Need-next-token-requires Inv-loop μ-loop
-next-token-requires c κs = search needs
-
-enum-known-next : tie.Need-enum-known-next Inv-loop μ-loop
-enum-known-next c = search needs
-
-enum-told : tie.Need-enum-told Inv-loop μ-loop
-enum-told c = search needs
-
-same-length : tie.Need-same-length Inv-loop μ-loop
-same-length c = search needs
-
 returns : tie.Need-returns Inv-loop μ-loop
 returns c =
     let l = c .before .before .before .loop in
@@ -53,15 +41,6 @@ returns c =
 
 turn-ground-requires : tie.Need-turn-ground-requires Inv-loop μ-loop
 turn-ground-requires c κs = next-is (c .before .before .before .next-token .ensures) (c .before .next .given .1) .high
-
-enum-told-2 : tie.Need-enum-told-2 Inv-loop μ-loop
-enum-told-2 c = search needs
-
-enum-told-3 : tie.Need-enum-told-3 Inv-loop μ-loop
-enum-told-3 c = search needs
-
-same-length-2 : tie.Need-same-length-2 Inv-loop μ-loop
-same-length-2 c = search needs
 
 returns-2 : tie.Need-returns-2 Inv-loop μ-loop
 returns-2 c =
@@ -98,19 +77,8 @@ pub draw-spec : {M : Type 1} → statement M
 draw-spec =
     tie.close
     (tie.spec
-    Inv-loop
-    μ-loop
-    loop-holds
-    next-token-requires
-    enum-known-next
-    enum-told
-    same-length
-    returns
-    turn-ground-requires
-    enum-told-2
-    enum-told-3
-    same-length-2
-    returns-2
-    turn-requires
-    loop-less
-    loop-again)
+    Inv-loop μ-loop loop-holds
+    (λ c κs. search needs) (λ c. search needs) (λ c. search needs) (λ c. search needs)
+    returns turn-ground-requires
+    (λ c. search needs) (λ c. search needs) (λ c. search needs)
+    returns-2 turn-requires loop-less loop-again)
