@@ -23,11 +23,12 @@ use Rattle.plain.specs.Names.{keyAt, tKey}
 use Rattle.plain.specs.Plain.{One, no, long, kept, far, plainAt}
 use Rattle.read.specs.declared.Head.{Head}
 use Rattle.read.specs.Block.{Got, join, oneGot, paramAt, headAt, Peel, peeled, withHead, peelHead, headEnd, peel, peelTo, tOf, tagAt, walk, parse}
-use Rattle.read.specs.Moved.{movedPart, movedTag, movedTags, movedFound, moved, movedReading, innerText}
-use Rattle.read.specs.Reading.{keptTags, readGround, unlessBad, wholeText, blockOf, answer}
+use Rattle.read.specs.Moved.{movedPart, movedTag, movedTags, movedFound, moved, movedAnswer, innerText}
+use Rattle.refusal.specs.Answer.{unlessBad}
+use Rattle.read.specs.Reading.{keptTags, readGround, wholeText, blockOf, answer}
 use Rattle.refusal.specs.Refusal.{mostPlaces, textGround}
 use Rattle.refusal.specs.declared.Refusal.the-variants.{NoRoom}
-use Rattle.read.specs.declared.Reading.the-variants.{Read, Refused}
+use Rattle.refusal.specs.declared.Answer.the-variants.{Written, Refused}
 use Rattle.read.specs.declared.Span.{Span}
 use Rattle.read.proofs.Parts.{SpanIn}
 use Rattle.read.proofs.MovedScan.{Window, On, either, if-lt, on, next, gap, ltb-on, eqb-on, byte, span-on, closing-on, past-on, trim-start-on}
@@ -185,13 +186,13 @@ kept-moved k g = count-map (movedPart k) (g .tags)
 
 -- ---- the part of a text that a call reads
 
-ground-moved : (k : ℕ) (l f : Found) (n places : ℕ) → readGround (movedFound k l) (movedFound k f) n places ≡ movedReading k (readGround l f n places)
+ground-moved : (k : ℕ) (l f : Found) (n places : ℕ) → readGround (movedFound k l) (movedFound k f) n places ≡ movedAnswer k (readGround l f n places)
 unfolding readGround
 ground-moved k (At p) f n places = refl
 ground-moved k Nowhere (At p) n places = refl
 ground-moved k Nowhere Nowhere n places = go (leb n (min places mostPlaces))
   where
-    go : (b : Bool) → pick b (Read n) (Refused (NoRoom n)) ≡ movedReading k (pick b (Read n) (Refused (NoRoom n)))
+    go : (b : Bool) → pick b (Written n) (Refused (NoRoom n)) ≡ movedAnswer k (pick b (Written n) (Refused (NoRoom n)))
     go true = refl
     go false = refl
 
@@ -217,7 +218,7 @@ module _ (s : List ℕ) (x : Span) (inside : SpanIn s x) where
       let w : length a + length inner ≡ x .to = rw (la, li) z in
       rw (e, w, la) at (block-moved a inner b mostDepth)
 
-  pub answer-inside : (places : ℕ) → let g = blockOf inner (wholeText inner) in answer s x places ≡ unlessBad (textGround s) (movedReading (x .from) (readGround (g .long) (g .far) (keptTags g) places))
+  pub answer-inside : (places : ℕ) → let g = blockOf inner (wholeText inner) in answer s x places ≡ unlessBad (textGround s) (movedAnswer (x .from) (readGround (g .long) (g .far) (keptTags g) places))
   unfolding answer
   answer-inside places =
       let g = blockOf inner (wholeText inner) in

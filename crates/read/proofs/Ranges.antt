@@ -26,7 +26,7 @@ use Rattle.read.specs.Block.{oneGot, headTimes, headAccel, one, parse}
 use Rattle.read.specs.Reading.{blockOf}
 use Rattle.read.proofs.Words.{Fits, float-fits, cut-fits, cut-back, sound-tag}
 use Rattle.read.proofs.Fine.{Fine, nothing, late, tag, away, plain-fine}
-use Rattle.read.proofs.Answer.{good-short}
+use Rattle.refusal.proofs.Laws.{good-short}
 use Rattle.read.proofs.Parts.{parse-has, SpanIn}
 
 one-fits : Fits Range.float (bits one)
