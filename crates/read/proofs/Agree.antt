@@ -15,7 +15,7 @@ use Rattle.lists.specs.declared.Found.the-variants.{Nowhere, At}
 use Rattle.refusal.specs.Refusal.{numberOf, mostBytes, mostPlaces}
 use Rattle.refusal.specs.declared.Refusal.{Refusal}
 use Rattle.refusal.specs.declared.Refusal.the-variants.{TextTooLong, NotAscii, NoRoom}
-use Rattle.tag.specs.Table.{encode, tableWords}
+use Rattle.tag.specs.Table.{width, encode, tableWords}
 use Rattle.tag.proofs.Table.{laid-full, length-words}
 use Rattle.tag.proofs.Tags.{count-length}
 use Rattle.tag.proofs.Decoding.{sound-ranges, sound-nested, words-formed, words-back}
@@ -128,9 +128,9 @@ module _ (s : List ℕ) (x : Span) where
       let rs = encode (blockOf s x .tags) in
       let c : kept ≡ length rs = count-length (blockOf s x .tags) in
       let h = read-out (textGround s) (blockOf s x .long) (blockOf s x .far) kept n (placesOf t) (sym (is-out (placesOf t)) ∙ e) in
-      let room : 8 * length (encode (blockOf s x .tags)) ≤ length t = omega (arith, h .1) in
-      let m : 8 * n ≡ length (tableWords rs) = ap (λ (k : ℕ). 8 * k) (h .0 ∙ c) ∙ sym (length-words rs) in
-      (h .0, rw (e, laid-full rs t room, m) (take-at (tableWords rs) (drop (8 * length rs) t) (length (tableWords rs)) refl))
+      let room : width * length (encode (blockOf s x .tags)) ≤ length t = omega (arith, h .1) in
+      let m : width * n ≡ length (tableWords rs) = ap (λ (k : ℕ). width * k) (h .0 ∙ c) ∙ sym (length-words rs) in
+      (h .0, rw (e, laid-full rs t room, m) (take-at (tableWords rs) (drop (width * length rs) t) (length (tableWords rs)) refl))
 
   -- a reading that succeeds has no ground 1, 2 or 4
   read-good : (p n : ℕ) → answer s x p ≡ Written n → (textGround s ≡ Good) × (blockOf s x .far ≡ Nowhere) × (kept ≤ mostPlaces)

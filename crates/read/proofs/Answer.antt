@@ -1,8 +1,7 @@
 -- The answer and the table, from one run of the reader or from two.
 use mathlib.Core.Path.{_≡_, sym}
 use mathlib.Core.List.{List, [], _++_}
-use Prim.Native.Nat.{ℕ, _/_}
-use lib.ListN.{length}
+use Prim.Native.Nat.{ℕ}
 use Rattle.refusal.specs.declared.Refusal.{Refusal}
 use Rattle.tag.specs.Table.{encode}
 use Rattle.tag.proofs.Table.{laid-none}
@@ -11,7 +10,8 @@ use Rattle.refusal.specs.declared.Answer.{Answer}
 use Rattle.refusal.specs.declared.Answer.the-variants.{Written, Refused}
 use Rattle.refusal.specs.declared.Checked.the-variants.{Good, Bad}
 use Rattle.read.specs.declared.Span.{Span}
-use Rattle.read.specs.Reading.{Told, keptTags, readGround, blockOf, answer, after, Answered}
+use Rattle.read.specs.Reading.{keptTags, readGround, blockOf, answer, after, Answered}
+use Rattle.read.specs.Inner.{Told}
 use Rattle.tag.specs.Table.{placesOf}
 use Rattle.refusal.specs.Refusal.{textGround}
 
@@ -30,17 +30,17 @@ module _ (s : List ℕ) (x : Span) (t : List ℕ) where
     dry : l ++ t ≡ t
     dry = rw (a .table, laid-none (encode (blockOf s x .tags)))
 
-    is-answer : (r : Answer) → readGround (seen .long) (seen .far) (seen .n) (length (l ++ t) / 8) ≡ r → r ≡ answer s x (length t / 8)
+    is-answer : (r : Answer) → readGround (seen .long) (seen .far) (seen .n) (placesOf (l ++ t)) ≡ r → r ≡ answer s x (placesOf t)
     unfolding answer
     is-answer r e = sym (rw good (rw (dry, a .out) at e))
 
-    pub refused : (r : Refusal) → readGround (seen .long) (seen .far) (seen .n) (length (l ++ t) / 8) ≡ Refused r → Answered s x t (Refused r) (l ++ t)
+    pub refused : (r : Refusal) → readGround (seen .long) (seen .far) (seen .n) (placesOf (l ++ t)) ≡ Refused r → Answered s x t (Refused r) (l ++ t)
     unfolding after
     refused r e =
         let k = is-answer (Refused r) e in
         record { reading = k; table = rw (← k) dry }
 
-    pub done : (n : ℕ) (m′ : ℕ) (o : Out) (u : List ℕ) → readGround (seen .long) (seen .far) (seen .n) (length (l ++ t) / 8) ≡ Written n → Told (l ++ t) (blockOf s x) m′ o u → Answered s x t (Written n) u
+    pub done : (n : ℕ) (m′ : ℕ) (o : Out) (u : List ℕ) → readGround (seen .long) (seen .far) (seen .n) (placesOf (l ++ t)) ≡ Written n → Told (l ++ t) (blockOf s x) m′ o u → Answered s x t (Written n) u
     unfolding after
     done n m′ o u e b =
         let k = is-answer (Written n) e in

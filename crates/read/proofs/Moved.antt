@@ -22,7 +22,7 @@ use Rattle.tag.proofs.Tags.{count-map}
 use Rattle.plain.specs.Names.{keyAt, tKey}
 use Rattle.plain.specs.Plain.{One, no, long, kept, far, plainAt}
 use Rattle.read.specs.declared.Head.{Head}
-use Rattle.read.specs.Block.{Got, join, oneGot, paramAt, headAt, Peel, peeled, withHead, peelHead, headEnd, peel, peelTo, tOf, tagAt, walk, parse}
+use Rattle.read.specs.Block.{Got, join, oneGot, paramAt, headAt, Peel, peeled, withHead, peelHead, headEnd, peel, peelTo, tOf, tagAt, walk, tagsIn, tAt, parse}
 use Rattle.read.specs.Moved.{movedPart, movedTag, movedTags, movedFound, moved, movedAnswer, innerText}
 use Rattle.refusal.specs.Answer.{unlessBad}
 use Rattle.read.specs.Reading.{keptTags, readGround, wholeText, blockOf, answer}
@@ -153,12 +153,16 @@ module _ {w s : List ℕ} {k n : ℕ} (v : Window w s k n) where
         G : Got → Got → Type 0
         G x y = x ≡ moved k y
 
+  t-at-on : (d : ℕ) (p′ p q′ q : ℕ) → On k n p′ p → On k n q′ q → tAt d w p′ q′ ≡ moved k (tAt d s p q)
+  unfolding tAt movedTags
+  t-at-on zero p′ p q′ q h g = refl
+  t-at-on (suc d) p′ p q′ q h g =
+      let l = peel-on h g in
+      t-on (tagsIn (tAt d s) s (peelTo s p q .rest) q) l (rw (gap (l .rest) g) (walk-on (tAt d w) (tAt d s) (t-at-on d) (q - peelTo s p q .rest) (l .rest) g))
+
   parse-on : (d : ℕ) {i′ i e′ e : ℕ} → On k n i′ i → On k n e′ e → parse d w i′ e′ ≡ moved k (parse d s i e)
   unfolding parse movedTags
-  parse-on zero {i′} {i} {e′} {e} h g = rw (gap h g) (walk-on _ _ (λ p′ p q′ q a b. refl) (e - i) h g)
-  parse-on (suc d) {i′} {i} {e′} {e} h g =
-      rw (gap h g)
-      (walk-on _ _ (λ p′ p q′ q a b. let l = peel-on a b in t-on (parse d s (peelTo s p q .rest) q) l (parse-on d (l .rest) b)) (e - i) h g)
+  parse-on d {i′} {i} {e′} {e} h g = rw (gap h g) (walk-on (tAt d w) (tAt d s) (t-at-on d) (e - i) h g)
 
 -- ---- the law
 

@@ -1,7 +1,7 @@
 -- What the two reading calls answer, and what the table holds afterwards.
 use mathlib.Core.Path.{_≡_}
 use mathlib.Core.List.{List}
-use Prim.Native.Nat.{ℕ, _-_, _≤_}
+use Prim.Native.Nat.{ℕ, _-_}
 use lib.Dec.{ltb, eqb}
 use lib.ListN.{length, getD}
 use Rattle.scan.specs.Scan.{pick, inClass, past, trimStart, trimEnd}
@@ -12,7 +12,6 @@ use Rattle.refusal.specs.Refusal.{textGround}
 use Rattle.refusal.specs.declared.Refusal.the-variants.{NumeralTooLong, FadeTooFar}
 use Rattle.tag.specs.Tag.{count}
 use Rattle.tag.specs.Table.{encode, laid, placesOf}
-use Rattle.read.specs.declared.Out.{Out}
 use Rattle.refusal.specs.declared.Answer.{Answer}
 use Rattle.refusal.specs.declared.Answer.the-variants.{Refused}
 use Rattle.refusal.specs.Answer.{roomFor, unlessBad, tableAfter}
@@ -23,15 +22,6 @@ use Rattle.tag.specs.Tag.{mostDepth}
 -- 01, What demand 3 speaks of: each tag counts as one, a \t and each tag inside it
 abbrev pub keptTags : Got → ℕ
 keptTags g = count (g .tags)
-
--- what a reader of the cycle says of its result r and of the table, t before and u after
-abbrev pub outOf : Got → Out
-outOf g = record { n = keptTags g; long = g .long; far = g .far }
-
-pub record Told (t : List ℕ) (g : Got) (most : ℕ) (r : Out) (u : List ℕ) : Type 0 where
-  pub out : r ≡ outOf g
-  pub table : u ≡ laid t (encode (g .tags))
-  pub few : r .n ≤ most
 
 -- grounds 3, 4 and 9, on what the text gives and the number of places in the table
 unfoldable pub readGround : Found → Found → ℕ → ℕ → Answer
@@ -45,11 +35,6 @@ wholeText s = record { from = 0; to = length s }
 
 abbrev pub braceEnd : List ℕ → ℕ → ℕ → ℕ
 braceEnd s p b = pick (ltb p b) (pick (eqb (getD s (b - 1) 0) 125) (b - 1) b) b
-
-pub record BraceEnd (s : List ℕ) (p b r : ℕ) : Type 0 where
-  pub is : r ≡ braceEnd s p b
-  pub low : p ≤ r
-  pub high : r ≤ b
 
 unfoldable pub lessBraces : List ℕ → Span
 lessBraces s =

@@ -18,7 +18,7 @@ use Rattle.plain.specs.Names.{names, lookup, lowered, keyAt}
 use Rattle.plain.specs.Plain.{part, f32s, i32s, allFloats, floatsIn, allInts, intsIn, unlessLong, pairOf, moveOf, fadOf, fadeOf, rangedOf, weightOf, flagOf, clipOf, resetOf, shaped, isFn, isNamedReset, plainAt}
 use Rattle.refusal.specs.declared.Answer.{Answer}
 use Rattle.refusal.specs.declared.Answer.the-variants.{Written, Refused}
-use Rattle.read.specs.Block.{paramAt, peel, tagAt, walk, parse}
+use Rattle.read.specs.Block.{paramAt, peel, tagAt, walk, tAt, parse}
 use Rattle.read.specs.Reading.{readGround, wholeText, lessBraces, blockOf, answer}
 use Rattle.refusal.specs.Refusal.{textGround}
 
@@ -58,7 +58,7 @@ pub tables : Gives recordsOf (
     ("\\fs(nan)", []) ∷
     ("\\\\\\i1", rec 43 1 0 0 0 0 0 0 ∷ []) ∷
     [])
-unfolding round toBits toSigned span back skip skipBack blankAt blankBefore closing maxZero roundAway roundByte value wholeNumber i32Of hexAt splitAt exponentAt floatOf f32Of trimmed ampersands zeroXAt digits alphaAt colourAt split append records encode count names lookup lowered keyAt part f32s i32s allFloats floatsIn allInts intsIn unlessLong pairOf moveOf fadOf fadeOf rangedOf weightOf flagOf clipOf resetOf shaped isFn isNamedReset plainAt paramAt peel tagAt walk parse
+unfolding round toBits toSigned span back skip skipBack blankAt blankBefore closing maxZero roundAway roundByte value wholeNumber i32Of hexAt splitAt exponentAt floatOf f32Of trimmed ampersands zeroXAt digits alphaAt colourAt split append records encode count names lookup lowered keyAt part f32s i32s allFloats floatsIn allInts intsIn unlessLong pairOf moveOf fadOf fadeOf rangedOf weightOf flagOf clipOf resetOf shaped isFn isNamedReset plainAt paramAt peel tagAt walk tAt parse
 tables = refl
 
 pub raw : Gives rawRecordsOf (
@@ -66,7 +66,7 @@ pub raw : Gives rawRecordsOf (
     ("{\\rAlt}", rec 41 1 3 3 0 0 0 0 ∷ []) ∷
     ("{{\\fnArial}}", rec 39 5 5 10 1 0 0 0 ∷ []) ∷
     [])
-unfolding round toBits toSigned span back skip skipBack blankAt blankBefore closing maxZero roundAway roundByte value wholeNumber i32Of hexAt splitAt exponentAt floatOf f32Of trimmed ampersands zeroXAt digits alphaAt colourAt split append records encode count names lookup lowered keyAt part f32s i32s allFloats floatsIn allInts intsIn unlessLong pairOf moveOf fadOf fadeOf rangedOf weightOf flagOf clipOf resetOf shaped isFn isNamedReset plainAt paramAt peel tagAt walk parse lessBraces
+unfolding round toBits toSigned span back skip skipBack blankAt blankBefore closing maxZero roundAway roundByte value wholeNumber i32Of hexAt splitAt exponentAt floatOf f32Of trimmed ampersands zeroXAt digits alphaAt colourAt split append records encode count names lookup lowered keyAt part f32s i32s allFloats floatsIn allInts intsIn unlessLong pairOf moveOf fadOf fadeOf rangedOf weightOf flagOf clipOf resetOf shaped isFn isNamedReset plainAt paramAt peel tagAt walk tAt parse lessBraces
 raw = refl
 
 pub answers : Gives answerOf (
@@ -84,7 +84,7 @@ pub answers : Gives answerOf (
     ("\\i1\\fade(0,0,0,0,0,0,1000000001)", Refused (FadeTooFar 3)) ∷
     ("\\fade(0,0,0,-1000000000,0,0,1000000000)", Written 1) ∷
     [])
-unfolding round toBits toSigned span back skip skipBack blankAt blankBefore closing maxZero roundAway roundByte value wholeNumber i32Of hexAt splitAt exponentAt floatOf f32Of trimmed ampersands zeroXAt digits alphaAt colourAt split append records encode count names lookup lowered keyAt part f32s i32s allFloats floatsIn allInts intsIn unlessLong pairOf moveOf fadOf fadeOf rangedOf weightOf flagOf clipOf resetOf shaped isFn isNamedReset plainAt paramAt peel tagAt walk parse textGround readGround answer
+unfolding round toBits toSigned span back skip skipBack blankAt blankBefore closing maxZero roundAway roundByte value wholeNumber i32Of hexAt splitAt exponentAt floatOf f32Of trimmed ampersands zeroXAt digits alphaAt colourAt split append records encode count names lookup lowered keyAt part f32s i32s allFloats floatsIn allInts intsIn unlessLong pairOf moveOf fadOf fadeOf rangedOf weightOf flagOf clipOf resetOf shaped isFn isNamedReset plainAt paramAt peel tagAt walk tAt parse textGround readGround answer
 answers = refl
 
 -- 01, Grounds: "Two faults: the lower number", for each two neighbours of 1, 2, 3, 4 and 9; the second is the number of places
@@ -106,5 +106,5 @@ pub two-faults : Answers (
     ((bytes "\\i1" ++ bytes farFade, 0), Refused (FadeTooFar 3)) ∷
     ((bytes "\\i1\\b1", 1), Refused (NoRoom 2)) ∷
     [])
-unfolding round toBits toSigned span back skip skipBack blankAt blankBefore closing maxZero roundAway roundByte value wholeNumber i32Of hexAt splitAt exponentAt floatOf f32Of trimmed ampersands zeroXAt digits alphaAt colourAt split append records encode count names lookup lowered keyAt part f32s i32s allFloats floatsIn allInts intsIn unlessLong pairOf moveOf fadOf fadeOf rangedOf weightOf flagOf clipOf resetOf shaped isFn isNamedReset plainAt paramAt peel tagAt walk parse textGround readGround answer
+unfolding round toBits toSigned span back skip skipBack blankAt blankBefore closing maxZero roundAway roundByte value wholeNumber i32Of hexAt splitAt exponentAt floatOf f32Of trimmed ampersands zeroXAt digits alphaAt colourAt split append records encode count names lookup lowered keyAt part f32s i32s allFloats floatsIn allInts intsIn unlessLong pairOf moveOf fadOf fadeOf rangedOf weightOf flagOf clipOf resetOf shaped isFn isNamedReset plainAt paramAt peel tagAt walk tAt parse textGround readGround answer
 two-faults = refl

@@ -6,10 +6,9 @@ ghost use lib.ListN.{length};
 ghost use Rattle.refusal.specs.Refusal.{textGround};
 ghost use Rattle.refusal.specs.declared.Checked.the-variants.{Good};
 ghost use Rattle.tag.specs.Table.{encode, laid};
-ghost use Rattle.read.specs.Block.{paramAt, nameEnd, headAt, HeadIn, peel as peelFrom, peelTo, tagAt, tAt, parse, oneGot};
-ghost use Rattle.read.specs.Heads.{headed, tWords, Peels};
-ghost use Rattle.read.specs.Reading.{Told, readGround, wholeText, lessBraces, answer, after, Answered, outOf};
-ghost use Rattle.read.specs.Kept.{keptGot, joinedOut, aroundOut};
+ghost use Rattle.read.specs.Block.{paramAt, nameEnd, headAt, peel as peelFrom, peelTo, tagAt, tAt, parse, oneGot};
+ghost use Rattle.read.specs.Reading.{readGround, wholeText, lessBraces, answer, after, Answered};
+ghost use Rattle.read.specs.Inner.{HeadIn, headed, tWords, Peels, keptRecords, keptGot, joinedOut, aroundOut, Told, outOf, BraceEnd};
 
 // A tag: where its name begins and ends, its parameter from p to q, and the place behind both.
 pub struct Head {
@@ -240,7 +239,7 @@ fn t_record(h: Heads, n: u32) -> tag::Record
 
 // What a plain tag gives, its record into the front of the table.
 fn keep(i: usize, k: plain::Kept, table: &mut [u32]) -> Out
-    ensures { λ r. ⌜ (r ≡ keptGot i k) × (now (table .exit) ≡ laid (now (table .entry)) (Rattle.read.specs.Kept.keptRecords k)) × (r .n ≤ 1) ⌝ }
+    ensures { λ r. ⌜ (r ≡ keptGot i k) × (now (table .exit) ≡ laid (now (table .entry)) (keptRecords k)) × (r .n ≤ 1) ⌝ }
 {
     match k {
         plain::Kept::No => Out {
@@ -442,7 +441,7 @@ pub fn parse_overrides(text: &[u8], table: &mut [u32]) -> refusal::Answer
 // Where the text without blanks around it ends once a closing brace is dropped.
 fn brace_end(text: &[u8], p: usize, b: usize) -> usize
     requires { ⌜ (p ≤ b) × (b ≤ length (now text)) ⌝ }
-    ensures { λ r. ⌜ Rattle.read.specs.Reading.BraceEnd (now (text .entry)) p b r ⌝ }
+    ensures { λ r. ⌜ BraceEnd (now (text .entry)) p b r ⌝ }
 {
     if p < b {
         if text[b - 1] == 125 {
