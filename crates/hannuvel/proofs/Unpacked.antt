@@ -1,5 +1,5 @@
 -- Of what each call returns, the three functions of include/hannuvel.h give back the ground, the extra and the value of the answer: nothing is cut off.
-use mathlib.Core.Path.{_≡_, refl}
+use mathlib.Core.Path.{_≡_}
 use mathlib.Core.List.{List}
 use Prim.Native.Nat.{ℕ, _+_, _*_, _/_, _%_, _^_, _≤_, _<_}
 use native.Mathlib.Omega.{arith}

@@ -17,7 +17,7 @@ use Rattle.numeral.specs.Numeral.{F32, tooLong, number, f32At}
 use Rattle.lists.specs.Lists.{firstOf}
 use Rattle.lists.specs.declared.Found.{Found}
 use Rattle.lists.specs.declared.Found.the-variants.{Nowhere, At}
-use Rattle.tag.specs.Tag.{mostDepth, T, Tags, none, and, append}
+use Rattle.tag.specs.Tag.{mostDepth, Tags, none, and, append}
 use Rattle.tag.proofs.Tags.{count-map}
 use Rattle.plain.specs.Names.{keyAt, tKey}
 use Rattle.plain.specs.Plain.{One, no, long, kept, far, plainAt}

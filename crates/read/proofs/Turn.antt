@@ -4,7 +4,6 @@ use mathlib.Core.List.{List, [], _∷_, _++_, append-nil}
 use Prim.Native.Nat.{ℕ, zero, suc, _+_, _-_, _*_, _≤_, min}
 use native.Mathlib.Omega.{arith}
 use native.Mathlib.Nat.{zero-min}
-use native.Mathlib.Numerals.{add-one}
 use lib.Ieee.{Float, toBits}
 use lib.Dec.{ltb, eqb}
 use Rattle.scan.specs.Scan.{trimStart}

@@ -1,14 +1,13 @@
 // Override blocks into tables: the two reading calls.
 ghost use mathlib.Core.Path.{_≡_};
-ghost use mathlib.Core.List.{[], _∷_};
 ghost use Prim.Native.Nat.{_+_, _-_, _*_, _^_, _≤_, _<_};
 ghost use lib.ListN.{length};
 ghost use Rattle.refusal.specs.Refusal.{textGround};
 ghost use Rattle.refusal.specs.declared.Checked.the-variants.{Good};
-ghost use Rattle.tag.specs.Table.{encode, laid};
-ghost use Rattle.read.specs.Block.{paramAt, nameEnd, headAt, peel as peelFrom, peelTo, tagAt, tAt, parse, oneGot};
-ghost use Rattle.read.specs.Reading.{readGround, wholeText, lessBraces, answer, after, Answered};
-ghost use Rattle.read.specs.Inner.{HeadIn, headed, tWords, Peels, keptRecords, keptGot, joinedOut, aroundOut, Told, outOf, BraceEnd};
+ghost use Rattle.tag.specs.Table.{laid};
+ghost use Rattle.read.specs.Block.{paramAt, nameEnd, headAt, peelTo, tagAt, tAt, parse};
+ghost use Rattle.read.specs.Reading.{readGround, wholeText, lessBraces, Answered};
+ghost use Rattle.read.specs.Inner.{HeadIn, headed, tWords, Peels, keptRecords, keptGot, joinedOut, aroundOut, Told, BraceEnd};
 
 // A tag: where its name begins and ends, its parameter from p to q, and the place behind both.
 pub struct Head {
