@@ -58,20 +58,11 @@ Inv-loop text from to start stop i₀ a₀ i a = So-far text from to start stop 
 abbrev μ-loop : tie.MeasureT-loop
 μ-loop text from to start stop i₀ a₀ i a = stop - i
 
-nine-on-requires : tie.Need-nine-on-requires Inv-loop μ-loop
-nine-on-requires c κs = search needs
-
 loop-holds : tie.Need-loop-holds Inv-loop μ-loop
 loop-holds c =
     let a = c .before .before .args in
     let z : a .from - a .from ≡ 0 = omega arith in
     (le-refl (a .from), omega (arith, c .nine-on .ensures), refl, rw (z, pow-zero) (omega arith), λ j h. refl)
-
-shared-slice-read-wide : tie.Need-shared-slice-read-wide Inv-loop μ-loop
-shared-slice-read-wide c = search needs
-
-wide-requires : tie.Need-wide-requires Inv-loop μ-loop
-wide-requires c κs = search needs
 
 returns : tie.Need-returns Inv-loop μ-loop
 returns c =
@@ -93,23 +84,11 @@ add-a c =
     let l = c .before .before .before .before .before in
     omega (arith, step-low _ _ _ _ _ _ _ (l .before .nine-on .ensures) (l .loop .inv) _ (c .before .before .wide .ensures) (omega arith) (omega arith) (omega arith))
 
-sub-a : tie.Need-sub-a Inv-loop μ-loop
-sub-a c = search needs
-
-add-i : tie.Need-add-i Inv-loop μ-loop
-add-i c = search needs
-
-loop-less : tie.Need-loop-less Inv-loop μ-loop
-loop-less c = search needs
-
 loop-again : tie.Need-loop-again Inv-loop μ-loop
 loop-again c =
     let l = c .before .before .before .before .before in
     let z : l .loop .a * 10 + c .before .before .wide .result - 48 ≡ l .loop .a * 10 + (c .before .before .wide .result - 48) = omega arith in
     rw z (more _ _ _ _ _ _ _ (l .before .nine-on .ensures) (l .loop .inv) _ (c .before .before .wide .ensures) (omega arith) (omega arith) (omega arith))
-
-span-requires : tie.Need-span-requires Inv-loop μ-loop
-span-requires c κs = search needs
 
 returns-3 : tie.Need-returns-3 Inv-loop μ-loop
 returns-3 c =
@@ -123,22 +102,6 @@ returns-4 c =
 
 pub run-at-spec : {M : Type 1} → statement M
 run-at-spec =
-    tie.close
-    (tie.spec
-    Inv-loop
-    μ-loop
-    nine-on-requires
-    loop-holds
-    shared-slice-read-wide
-    wide-requires
-    returns
-    returns-2
-    mul-a
-    add-a
-    sub-a
-    add-i
-    loop-less
-    loop-again
-    span-requires
-    returns-3
-    returns-4)
+    tie.close (tie.spec
+    Inv-loop μ-loop (λ c κs. search needs) loop-holds (λ c. search needs) (λ c κs. search needs) returns returns-2 mul-a add-a (λ c. search needs)
+    (λ c. search needs) (λ c. search needs) loop-again (λ c κs. search needs) returns-3 returns-4)

@@ -16,12 +16,6 @@ Inv-loop text radix from to start i₀ a₀ i a = (from ≤ i) × (i ≤ to) × 
 abbrev μ-loop : tie.MeasureT-loop
 μ-loop text radix from to start i₀ a₀ i a = to - i
 
-loop-holds : tie.Need-loop-holds Inv-loop μ-loop
-loop-holds c = search needs
-
-wide-requires : tie.Need-wide-requires Inv-loop μ-loop
-wide-requires c κs = search needs
-
 radix-small : (c : tie.After-wide Inv-loop μ-loop) → c .wide .result ≤ 16
 radix-small c = omega arith
 
@@ -30,29 +24,11 @@ mul-least c =
     let h = step-fits _ _ 0 (c .before .before .loop .inv .2) (radix-small c) (lit≤ tt) in
     omega arith
 
-shared-slice-read-digit-of : tie.Need-shared-slice-read-digit-of Inv-loop μ-loop
-shared-slice-read-digit-of c = search needs
-
-digit-of-requires : tie.Need-digit-of-requires Inv-loop μ-loop
-digit-of-requires c κs = search needs
-
-wide-requires-2 : tie.Need-wide-requires-2 Inv-loop μ-loop
-wide-requires-2 c κs = search needs
-
 add-least : tie.Need-add-least Inv-loop μ-loop
 add-least c =
     let r = c .before .before .before in
     let d : c .wide2 .result ≤ 16 = rw (c .wide2 .ensures, c .before .digit-of .ensures) (digit-most (getD (r .before .before .before .before .args .text .now) (r .before .before .loop .i) 0)) in
     record { fits = step-fits _ _ _ (r .before .before .loop .inv .2) (radix-small r) d }
-
-least-requires : tie.Need-least-requires Inv-loop μ-loop
-least-requires c κs = search needs
-
-add-i : tie.Need-add-i Inv-loop μ-loop
-add-i c = search needs
-
-loop-less : tie.Need-loop-less Inv-loop μ-loop
-loop-less c = search needs
 
 loop-again : tie.Need-loop-again Inv-loop μ-loop
 loop-again c =
@@ -68,19 +44,6 @@ returns c =
 
 pub value-spec : {M : Type 1} → statement M
 value-spec =
-    tie.close
-    (tie.spec
-    Inv-loop
-    μ-loop
-    loop-holds
-    wide-requires
-    mul-least
-    shared-slice-read-digit-of
-    digit-of-requires
-    wide-requires-2
-    add-least
-    least-requires
-    add-i
-    loop-less
-    loop-again
-    returns)
+    tie.close (tie.spec
+    Inv-loop μ-loop (λ c. search needs) (λ c κs. search needs) mul-least (λ c. search needs) (λ c κs. search needs) (λ c κs. search needs) add-least
+    (λ c κs. search needs) (λ c. search needs) (λ c. search needs) loop-again returns)

@@ -23,29 +23,8 @@ abbrev μ-loop : tie.MeasureT-loop
 loop-holds : tie.Need-loop-holds Inv-loop μ-loop
 loop-holds c = (search needs, search needs, λ j a b. absurd (omega arith))
 
-sub-loop : tie.Need-sub-loop Inv-loop μ-loop
-sub-loop c = search needs
-
-add-k : tie.Need-add-k Inv-loop μ-loop
-add-k c = search needs
-
-shared-slice-read-has : tie.Need-shared-slice-read-has Inv-loop μ-loop
-shared-slice-read-has c = search needs
-
-has-requires : tie.Need-has-requires Inv-loop μ-loop
-has-requires c κs = search needs
-
-run-around-requires : tie.Need-run-around-requires Inv-loop μ-loop
-run-around-requires c κs = search needs
-
 returns : tie.Need-returns Inv-loop μ-loop
 returns c h = absurd (true≢false (sym h))
-
-add-i : tie.Need-add-i Inv-loop μ-loop
-add-i c = search needs
-
-loop-less : tie.Need-loop-less Inv-loop μ-loop
-loop-less c = search needs
 
 loop-again : tie.Need-loop-again Inv-loop μ-loop
 loop-again c =
@@ -68,18 +47,6 @@ returns-2 c h j a b x = c .before .loop .inv .2 j a (omega arith) b x
 
 pub no-ten-spec : {M : Type 1} → statement M
 no-ten-spec =
-    tie.close
-    (tie.spec
-    Inv-loop
-    μ-loop
-    loop-holds
-    sub-loop
-    add-k
-    shared-slice-read-has
-    has-requires
-    run-around-requires
-    returns
-    add-i
-    loop-less
-    loop-again
-    returns-2)
+    tie.close (tie.spec
+    Inv-loop μ-loop loop-holds (λ c. search needs) (λ c. search needs) (λ c. search needs) (λ c κs. search needs) (λ c κs. search needs) returns
+    (λ c. search needs) (λ c. search needs) loop-again returns-2)
