@@ -1,7 +1,7 @@
 -- A clip argument: Rust's `split_clip_arg`.
 use mathlib.Core.Path.{_≡_}
 use mathlib.Core.List.{List}
-use Prim.Native.Nat.{ℕ, _+_, _≤_}
+use Prim.Native.Nat.{ℕ, _+_}
 use lib.Dec.{ltb, eqb}
 use lib.ListN.{length}
 use denote.Ref.{RefT, now}
@@ -60,12 +60,6 @@ restOf s c = between s (c .from) (c .to)
 abbrev pub clipGround : Checked → ℕ
 clipGround Good = 0
 clipGround (Bad r) = numberOf r
-
--- a clip argument's parts: what a definition names, its places in order
-pub record ClipIn (s : List ℕ) (d r : Clip) : Type 0 where
-  pub is : r ≡ d
-  pub order : r .from ≤ r .to
-  pub high : r .to ≤ length s
 
 -- 01: "hands back the rest of the argument itself": r is the rest of the text t, the caller's own bytes where they lie
 abbrev pub IsRest : RefT (List ℕ) → RefT (List ℕ) → Type 0

@@ -1,3 +1,4 @@
 pub mod Part
 pub mod Clip
+pub mod Inner
 pub mod Sheet

@@ -1,6 +1,7 @@
 // Clip arguments: the scale, and the rest of the caller's own slice.
 ghost use mathlib.Core.Path.{_≡_};
-ghost use Rattle.clips.specs.Clip.{atLeastOne, clipParts, clipOf, ClipIn, IsRest, Splits};
+ghost use Rattle.clips.specs.Clip.{atLeastOne, clipParts, clipOf, IsRest, Splits};
+ghost use Rattle.clips.specs.Inner.{ClipIn};
 
 // A clip argument: a ground that stands against it, the scale, and where the rest of it begins and ends.
 pub struct Clip {

@@ -65,8 +65,8 @@ fn exponent() -> u64
 fn draw(exponent: u32, text: &[u8], path: &mut [u32], out: &mut [u8]) {
     let drawing = drawing::parse_drawing(text, exponent, path);
     match drawing {
-        drawing::Drawing::Drawn(n) => picture::write_picture(out, path, n),
-        drawing::Drawing::Refused(r) => {
+        refusal::Answer::Written(n) => picture::write_picture(out, path, n),
+        refusal::Answer::Refused(r) => {
             print::line::write_text(out, text);
             print::refused::write_refusal(out, r, b"commands");
         }

@@ -1,35 +1,24 @@
 -- From a run to the answer.
 use mathlib.Core.Path.{_≡_, refl, sym, _∙_}
 use mathlib.Core.List.{List, [], _∷_, _++_}
-use mathlib.Core.Logic.{⊎-elim}
 use Prim.Native.Nat.{ℕ, _/_, _≤_, _<_, min}
 use native.Mathlib.Omega.{arith}
 use lib.Ieee.{Float}
 use lib.ListN.{length}
-use borrow.Author.Tests.{lt-ltb, le-ltb}
-use Rattle.scan.proofs.Laws.{le-or-lt}
+use borrow.Author.Tests.{lt-ltb, le-ltb, le-leb, lt-leb}
 use Rattle.refusal.specs.Refusal.{textGround}
 use Rattle.refusal.specs.declared.Refusal.{Refusal}
 use Rattle.refusal.specs.declared.Refusal.the-variants.{ScaleTooLarge, NoRoom}
 use Rattle.refusal.specs.declared.Checked.the-variants.{Good, Bad}
 use Rattle.tokens.specs.Tokens.{from, tokensGround}
 use Rattle.drawing.specs.declared.machine.Traced.{Traced}
-use Rattle.drawing.specs.declared.Drawing.the-variants.{Drawn, Refused}
+use Rattle.refusal.specs.declared.Answer.the-variants.{Written, Refused}
 use Rattle.drawing.specs.Drawing.{scaleOf}
 use Rattle.drawing.specs.Answer.{unless, ground, drawing, answer, after, Answered}
 use Rattle.drawing.specs.Inner.{Traces}
 use Rattle.tokens.specs.Inner.{Straight}
 use Rattle.drawing.proofs.Weighing.{few-by-weight}
 use Rattle.drawing.proofs.Emitting.{emits-all}
-
--- a text with no ground 1 is short
-pub short-text : (s : List ℕ) → textGround s ≡ Good → length s ≤ 12288
-unfolding textGround
-short-text s e =
-    ⊎-elim
-    (λ (h : length s ≤ 12288). h)
-    (λ (h : 12288 < length s). absurd (let z : _≡_ {A = ℕ} 0 1 = cc (rw (lt-ltb 12288 (length s) h) at e) in omega arith))
-    (le-or-lt (length s) 12288)
 
 module _ (s t : List ℕ) (x : ℕ) where
   pub answered-text : {r : Refusal} → textGround s ≡ Bad r → Answered s x t (Refused r) t
@@ -51,16 +40,16 @@ module _ (s t : List ℕ) (x : ℕ) where
       counted z q = z .emits q .count ∙ rw f (omega arith)
 
       -- a run into the path itself, where there is room for them
-      drawn : {d : Traced} {v : List ℕ} → Traces s k t d v → tokensGround (from s 0) ≡ Good → length (drawing s x) ≤ m → Answered s x t (Drawn (d .n)) v
+      drawn : {d : Traced} {v : List ℕ} → Traces s k t d v → tokensGround (from s 0) ≡ Good → length (drawing s x) ≤ m → Answered s x t (Written (d .n)) v
       unfolding answer after
       drawn z g h =
           let q = z .ground ∙ g in
           let c = counted z q in
-          let y = le-ltb (min (length t / 8) 1024) (length (drawing s x)) (rw p at h) in
+          let y = le-leb (length (drawing s x)) (min (length t / 8) 1024) (rw p at h) in
           record { drawing = rw (is-good g, y, c); path = rw (is-good g, y) (emits-all (z .emits q) ∙ rw f) }
 
       -- one run, where nothing can stand against the drawing
-      pub straight-drawn : {d : Traced} {v : List ℕ} → Straight s m → Traces s k t d v → Answered s x t (Drawn (d .n)) v
+      pub straight-drawn : {d : Traced} {v : List ℕ} → Straight s m → Traces s k t d v → Answered s x t (Written (d .n)) v
       straight-drawn a z = drawn z (a .good) (omega (arith, a .few, few-by-weight (scaleOf x) (from s 0)))
 
       -- first into no path, which leaves the lent one as it was
@@ -83,8 +72,8 @@ module _ (s t : List ℕ) (x : ℕ) where
               let g = is-good (sym (z .ground) ∙ q) in
               let c = counted z q in
               let o : min (length t / 8) 1024 < length (drawing s x) = rw (← c, ← p) h in
-              let y = lt-ltb (min (length t / 8) 1024) (length (drawing s x)) o in
+              let y = lt-leb (length (drawing s x)) (min (length t / 8) 1024) o in
               record { drawing = rw (g, y, c); path = rw (g, y) dry }
 
-          pub dry-drawn : {e : Traced} {v : List ℕ} → d .n ≤ m → Traces s k (w ++ t) e v → Answered s x t (Drawn (e .n)) v
+          pub dry-drawn : {e : Traced} {v : List ℕ} → d .n ≤ m → Traces s k (w ++ t) e v → Answered s x t (Written (e .n)) v
           dry-drawn h a = drawn (rw dry at a) (sym (z .ground) ∙ q) (rw (counted z q) at h)

@@ -10,8 +10,8 @@ use Rattle.numeral.specs.Numeral.{value, splitAt, exponentAt, floatOf, f32Of}
 use Rattle.drawing.specs.declared.path.PathCommand.{PathCommand}
 use Rattle.drawing.specs.Path.{pathCommand}
 use Rattle.refusal.specs.declared.Refusal.the-variants.{TextTooLong, NotAscii, NumeralTooLong, ScaleTooLarge, NoRoom}
-use Rattle.drawing.specs.declared.Drawing.{Drawing}
-use Rattle.drawing.specs.declared.Drawing.the-variants.{Drawn, Refused}
+use Rattle.refusal.specs.declared.Answer.{Answer}
+use Rattle.refusal.specs.declared.Answer.the-variants.{Written, Refused}
 use Rattle.tokens.specs.Tokens.{spells, special, tokenOf, wordEnd, tokens, untilLetter, tokensGround}
 use Rattle.drawing.specs.Drawing.{scaleOf, scaled, weighed, commandOf, letterTurn, walk}
 use Rattle.drawing.specs.Answer.{ground, drawing, answer}
@@ -81,12 +81,12 @@ unfolding round toBits ofInt add mul div sum span skip skipBack blankAt blankBef
 paths = refl
 
 -- that each drawing, at its exponent and with its places, has its answer
-abbrev pub Answers : List (String × ℕ × ℕ × Drawing) → Type 0
-Answers rows = map (λ (r : String × ℕ × ℕ × Drawing). answer (bytes (r .0)) (r .1) (r .2)) rows ≡ map (λ (r : String × ℕ × ℕ × Drawing). r .3) rows
+abbrev pub Answers : List (String × ℕ × ℕ × Answer) → Type 0
+Answers rows = map (λ (r : String × ℕ × ℕ × Answer). answer (bytes (r .0)) (r .1) (r .2)) rows ≡ map (λ (r : String × ℕ × ℕ × Answer). r .3) rows
 
 pub answers : Answers (
-    ("m 1 2", 1, 1, Drawn 1) ∷
-    ("m 1 2", 32, 1, Drawn 1) ∷
+    ("m 1 2", 1, 1, Written 1) ∷
+    ("m 1 2", 32, 1, Written 1) ∷
     ("m 1 2 c", 33, 0, Refused ScaleTooLarge) ∷
     ("m 1 2 c", 1, 1, Refused (NoRoom 2)) ∷
     [])
@@ -94,11 +94,11 @@ unfolding round toBits ofInt add mul div sum span skip skipBack blankAt blankBef
 answers = refl
 
 -- 01, Grounds: "Two faults: the lower number", for each two neighbours of 1, 2, 3, 7 and 9; behind the bytes the exponent and the number of places
-abbrev answerIn : List ℕ × ℕ × ℕ → Drawing
+abbrev answerIn : List ℕ × ℕ × ℕ → Answer
 answerIn r = answer (r .0) (r .1) (r .2)
 
-abbrev AnswersIn : List ((List ℕ × ℕ × ℕ) × Drawing) → Type 0
-AnswersIn rows = map (λ (r : (List ℕ × ℕ × ℕ) × Drawing). answerIn (r .0)) rows ≡ map (λ (r : (List ℕ × ℕ × ℕ) × Drawing). r .1) rows
+abbrev AnswersIn : List ((List ℕ × ℕ × ℕ) × Answer) → Type 0
+AnswersIn rows = map (λ (r : (List ℕ × ℕ × ℕ) × Answer). answerIn (r .0)) rows ≡ map (λ (r : (List ℕ × ℕ × ℕ) × Answer). r .1) rows
 
 pub two-faults : AnswersIn (
     ((replicate 12289 128, 33, 0), Refused TextTooLong) ∷

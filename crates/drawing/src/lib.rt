@@ -14,15 +14,10 @@ mod pen;
 mod points;
 
 use machine::draw;
+use refusal::Answer;
 use refusal::Checked;
 use refusal::Refusal;
 use scan::least;
-
-// The answer of `parse_drawing`: the number of commands written, or the refusal.
-pub enum Drawing {
-    Drawn(usize),
-    Refused(Refusal),
-}
 
 // What coordinates are multiplied by: one divided by 2 ^ (exponent - 1).
 fn scale_of(exponent: u32) -> f32
@@ -36,7 +31,7 @@ fn scale_of(exponent: u32) -> f32
 }
 
 // Draws where grounds 1, 2 and 7 don't stand: in one run where a first look rules out grounds 3 and 9; else first into no path.
-fn draw_good(text: &[u8], exponent: u32, path: &mut [u32]) -> Drawing
+fn draw_good(text: &[u8], exponent: u32, path: &mut [u32]) -> Answer
     requires { ⌜ (textGround (now text) ≡ Good) × (exponent ≤ 32) ⌝ }
     ensures { λ r. ⌜ Answered (now (text .entry)) exponent (now (path .entry)) r (now (path .exit)) ⌝ }
 {
@@ -44,18 +39,18 @@ fn draw_good(text: &[u8], exponent: u32, path: &mut [u32]) -> Drawing
     let places = least(path.len() / 8, 1024);
     if tokens::straight(text, places) {
         let drawn = draw(text, scale, path);
-        return Drawing::Drawn(drawn.n);
+        return Answer::Written(drawn.n);
     }
     let seen = draw(text, scale, &mut path[..0]);
     let ground = seen.ground;
     match ground {
-        Checked::Bad(r) => Drawing::Refused(r),
+        Checked::Bad(r) => Answer::Refused(r),
         Checked::Good => {
             if seen.n > places {
-                return Drawing::Refused(Refusal::NoRoom(seen.n));
+                return Answer::Refused(Refusal::NoRoom(seen.n));
             }
             let drawn = draw(text, scale, path);
-            Drawing::Drawn(drawn.n)
+            Answer::Written(drawn.n)
         }
     }
 }
@@ -72,15 +67,15 @@ fn too_large(text: &[u8]) -> Refusal
 }
 
 // 01, src/drawing.rs: the path of a drawing.
-pub fn parse_drawing(text: &[u8], exponent: u32, path: &mut [u32]) -> Drawing
+pub fn parse_drawing(text: &[u8], exponent: u32, path: &mut [u32]) -> Answer
     ensures { λ r. ⌜ Answered (now (text .entry)) exponent (now (path .entry)) r (now (path .exit)) ⌝ }
 {
     let checked = refusal::check_text(text);
     match checked {
-        Checked::Bad(r) => Drawing::Refused(r),
+        Checked::Bad(r) => Answer::Refused(r),
         Checked::Good => {
             if exponent > 32 {
-                return Drawing::Refused(too_large(text));
+                return Answer::Refused(too_large(text));
             }
             draw_good(text, exponent, path)
         }

@@ -5,16 +5,14 @@ use mathlib.Core.List.{List}
 use Prim.Native.Nat.{ℕ, _+_, _*_, _/_, _%_, _^_}
 use Rattle.refusal.specs.Refusal.{numberOf, placeOf}
 use Rattle.refusal.specs.declared.Refusal.{Refusal}
-use Rattle.read.specs.Reading.{answer, after, groundNumber}
+use Rattle.refusal.specs.declared.Answer.{Answer}
+use Rattle.refusal.specs.Answer.{groundNumber, answerValue}
+use Rattle.read.specs.Reading.{answer, after}
 use Rattle.tag.specs.Table.{placesOf}
-use Rattle.read.specs.declared.Reading.{Reading}
-use Rattle.read.specs.declared.Reading.the-variants.{Read, Refused}
 use Rattle.read.specs.declared.Span.{Span}
 use Rattle.refusal.specs.declared.Checked.{Checked}
 use Rattle.refusal.specs.declared.Checked.the-variants.{Good, Bad}
 use Rattle.drawing.specs.Answer as Drawing
-use Rattle.drawing.specs.declared.Drawing.{Drawing}
-use Rattle.drawing.specs.declared.Drawing.the-variants.{Drawn, Refused as NotDrawn}
 use Rattle.clips.specs.Clip.{clipGround}
 use Rattle.clips.specs.declared.Clip.{Clip}
 
@@ -40,30 +38,18 @@ pub record Unpacks (w g e v : ℕ) : Type 0 where
 abbrev pub refusalWord : Refusal → ℕ
 refusalWord r = packed (numberOf r) 0 (placeOf r)
 
--- the records written; for a ground its place or count
-abbrev pub readingValue : Reading → ℕ
-readingValue (Read n) = n
-readingValue (Refused r) = placeOf r
-
-abbrev pub readingWord : Reading → ℕ
-readingWord r = packed (groundNumber r) 0 (readingValue r)
+-- a call that fills a table: how many records or commands it wrote; for a ground its place or count
+abbrev pub answerWord : Answer → ℕ
+answerWord a = packed (groundNumber a) 0 (answerValue a)
 
 -- what a reading call says: the number r, and the table t before and u after
 pub record ReadingCall (s : List ℕ) (x : Span) (t : List ℕ) (r : ℕ) (u : List ℕ) : Type 0 where
-  pub answered : r ≡ readingWord (answer s x (placesOf t))
+  pub answered : r ≡ answerWord (answer s x (placesOf t))
   pub table : u ≡ after s x t
-
--- the commands written; for a ground its place or count
-abbrev pub drawingValue : Drawing → ℕ
-drawingValue (Drawn n) = n
-drawingValue (NotDrawn r) = placeOf r
-
-abbrev pub drawingWord : Drawing → ℕ
-drawingWord d = packed (Drawing.groundNumber d) 0 (drawingValue d)
 
 -- what the drawing call says: the number r, and the path table t before and u after
 pub record DrawingCall (s : List ℕ) (exponent : ℕ) (t : List ℕ) (r : ℕ) (u : List ℕ) : Type 0 where
-  pub answered : r ≡ drawingWord (Drawing.answer s exponent (Drawing.placesOf t))
+  pub answered : r ≡ answerWord (Drawing.answer s exponent (Drawing.placesOf t))
   pub path : u ≡ Drawing.after s exponent t
 
 -- a clip argument: the offset at which the rest begins, and the scale; for a ground its place

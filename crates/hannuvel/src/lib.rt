@@ -2,7 +2,7 @@
 ghost use mathlib.Core.Path.{_≡_};
 ghost use Rattle.read.specs.Reading.{wholeText, lessBraces};
 ghost use Rattle.clips.specs.Clip.{clipOf};
-ghost use Rattle.hannuvel.specs.Packed.{refusalWord, readingWord, ReadingCall, drawingWord, DrawingCall, clipWord};
+ghost use Rattle.hannuvel.specs.Packed.{refusalWord, answerWord, ReadingCall, DrawingCall, clipWord};
 
 fn packed_refusal(r: refusal::Refusal) -> u64
     ensures { λ w. ⌜ w ≡ refusalWord r ⌝ }
@@ -12,12 +12,12 @@ fn packed_refusal(r: refusal::Refusal) -> u64
     ground * 281474976710656 + place
 }
 
-fn packed_reading(r: read::Reading) -> u64
-    ensures { λ w. ⌜ w ≡ readingWord r ⌝ }
+fn packed_answer(r: refusal::Answer) -> u64
+    ensures { λ w. ⌜ w ≡ answerWord r ⌝ }
 {
     match r {
-        read::Reading::Read(n) => (n % 4294967296) as u64,
-        read::Reading::Refused(g) => packed_refusal(g),
+        refusal::Answer::Written(n) => (n % 4294967296) as u64,
+        refusal::Answer::Refused(g) => packed_refusal(g),
     }
 }
 
@@ -26,7 +26,7 @@ fn packed_reading(r: read::Reading) -> u64
 pub extern "C" fn hannuvel_parse_overrides(text: &[u8], table: &mut [u32]) -> u64
     ensures { λ r. ⌜ ReadingCall (now (text .entry)) (wholeText (now (text .entry))) (now (table .entry)) r (now (table .exit)) ⌝ }
 {
-    packed_reading(read::parse_overrides(text, table))
+    packed_answer(read::parse_overrides(text, table))
 }
 
 // The same for the text trimmed, less one { and one }; offsets count from the text given.
@@ -34,16 +34,7 @@ pub extern "C" fn hannuvel_parse_overrides(text: &[u8], table: &mut [u32]) -> u6
 pub extern "C" fn hannuvel_parse_raw_block(text: &[u8], table: &mut [u32]) -> u64
     ensures { λ r. ⌜ ReadingCall (now (text .entry)) (lessBraces (now (text .entry))) (now (table .entry)) r (now (table .exit)) ⌝ }
 {
-    packed_reading(read::parse_raw_block(text, table))
-}
-
-fn packed_drawing(d: drawing::Drawing) -> u64
-    ensures { λ w. ⌜ w ≡ drawingWord d ⌝ }
-{
-    match d {
-        drawing::Drawing::Drawn(n) => (n % 4294967296) as u64,
-        drawing::Drawing::Refused(g) => packed_refusal(g),
-    }
+    packed_answer(read::parse_raw_block(text, table))
 }
 
 // The path of a drawing at a scale exponent. The value is the number of commands written.
@@ -51,7 +42,7 @@ fn packed_drawing(d: drawing::Drawing) -> u64
 pub extern "C" fn hannuvel_parse_drawing(text: &[u8], exponent: u32, path: &mut [u32]) -> u64
     ensures { λ r. ⌜ DrawingCall (now (text .entry)) exponent (now (path .entry)) r (now (path .exit)) ⌝ }
 {
-    packed_drawing(drawing::parse_drawing(text, exponent, path))
+    packed_answer(drawing::parse_drawing(text, exponent, path))
 }
 
 fn packed_clip(c: clips::Clip) -> u64

@@ -5,7 +5,7 @@ use mathlib.Core.Bool.{Bool, true, false}
 use Prim.Native.Nat.{ℕ, _*_, _≤_, _<_, min}
 use native.Mathlib.Omega.{arith}
 use lib.Dec.{ltb, leb}
-use lib.ListN.{length, take, drop}
+use lib.ListN.{length, drop}
 use lib.Seq.{take-at}
 use borrow.Author.Tests.{le-leb, lt-leb, leb-true, leb-false}
 use Rattle.scan.specs.Scan.{pick, inClass, spanTo}
@@ -15,16 +15,17 @@ use Rattle.lists.specs.declared.Found.the-variants.{Nowhere, At}
 use Rattle.refusal.specs.Refusal.{numberOf, mostBytes, mostPlaces}
 use Rattle.refusal.specs.declared.Refusal.{Refusal}
 use Rattle.refusal.specs.declared.Refusal.the-variants.{TextTooLong, NotAscii, NoRoom}
-use Rattle.tag.specs.Table.{encode, tableWords}
+use Rattle.tag.specs.Table.{width, encode, tableWords}
 use Rattle.tag.proofs.Table.{laid-full, length-words}
 use Rattle.tag.proofs.Tags.{count-length}
 use Rattle.tag.proofs.Decoding.{sound-ranges, sound-nested, words-formed, words-back}
-use Rattle.read.specs.declared.Reading.{Reading}
-use Rattle.read.specs.declared.Reading.the-variants.{Read, Refused}
+use Rattle.refusal.specs.declared.Answer.{Answer}
+use Rattle.refusal.specs.declared.Answer.the-variants.{Written, Refused}
 use Rattle.refusal.specs.declared.Checked.{Checked}
 use Rattle.refusal.specs.declared.Checked.the-variants.{Good, Bad}
 use Rattle.read.specs.declared.Span.{Span}
-use Rattle.read.specs.Reading.{readGround, unlessBad, blockOf, keptTags, answer, after}
+use Rattle.refusal.specs.Answer.{roomFor, unlessBad}
+use Rattle.read.specs.Reading.{readGround, blockOf, keptTags, answer, after}
 use Rattle.tag.specs.Table.{placesOf}
 use Rattle.refusal.specs.Refusal.{textGround}
 use Rattle.read.specs.Agreement.{Readable, written, Holds, Agreement}
@@ -32,14 +33,14 @@ use Rattle.read.proofs.Parts.{SpanIn}
 use Rattle.read.proofs.Ranges.{block-sound}
 
 -- a reading is no refusal
-read-not-refused : (n : ℕ) (r : Refusal) → Read n ≡ Refused r → ⊥
+read-not-refused : (n : ℕ) (r : Refusal) → Written n ≡ Refused r → ⊥
 read-not-refused n r e = let z : _≡_ {A = ℕ} 0 1 = cc in omega arith
 
-refused-not-read : (n : ℕ) (r : Refusal) → Refused r ≡ Read n → ⊥
+refused-not-read : (n : ℕ) (r : Refusal) → Refused r ≡ Written n → ⊥
 refused-not-read n r e = let z : _≡_ {A = ℕ} 0 1 = cc in omega arith
 
 -- the answer, from the grounds and the count
-abbrev out : Checked → Found → Found → ℕ → ℕ → Reading
+abbrev out : Checked → Found → Found → ℕ → ℕ → Answer
 out c l f n p = unlessBad c (readGround l f n p)
 
 alike-out : (c : Checked) (l f : Found) (n p q : ℕ) (r : Refusal) → ¬ (numberOf r ≡ 9) → out c l f n p ≡ Refused r → out c l f n q ≡ Refused r
@@ -49,7 +50,7 @@ alike-out Good (At a) f n p q r h e = e
 alike-out Good Nowhere (At a) n p q r h e = e
 alike-out Good Nowhere Nowhere n p q r h e = go (leb n (min p mostPlaces)) refl e
   where
-    go : (b : Bool) → leb n (min p mostPlaces) ≡ b → pick b (Read n) (Refused (NoRoom n)) ≡ Refused r → out Good Nowhere Nowhere n q ≡ Refused r
+    go : (b : Bool) → leb n (min p mostPlaces) ≡ b → pick b (Written n) (Refused (NoRoom n)) ≡ Refused r → out Good Nowhere Nowhere n q ≡ Refused r
     go true z e = absurd (read-not-refused n r e)
     go false z e =
         let y : NoRoom n ≡ r = cc in
@@ -72,19 +73,19 @@ lacking-out Good (At a) f n m p h e = absurd (let z : _≡_ {A = ℕ} 0 1 = cc i
 lacking-out Good Nowhere (At a) n m p h e = absurd (let z : _≡_ {A = ℕ} 0 1 = cc in omega arith)
 lacking-out Good Nowhere Nowhere n m p h e = go (leb n (min p mostPlaces)) refl e
   where
-    go : (b : Bool) → leb n (min p mostPlaces) ≡ b → pick b (Read n) (Refused (NoRoom n)) ≡ Refused (NoRoom m) → Lacking Good Nowhere Nowhere n m p
+    go : (b : Bool) → leb n (min p mostPlaces) ≡ b → pick b (Written n) (Refused (NoRoom n)) ≡ Refused (NoRoom m) → Lacking Good Nowhere Nowhere n m p
     go true z e = absurd (read-not-refused n (NoRoom m) e)
     go false z e = record { text = refl; numerals = refl; fades = refl; count = cc; more = leb-false n (min p mostPlaces) z }
 
 -- and behind a reading
-read-out : (c : Checked) (l f : Found) (n m p : ℕ) → out c l f n p ≡ Read m → (m ≡ n) × (n ≤ min p mostPlaces)
+read-out : (c : Checked) (l f : Found) (n m p : ℕ) → out c l f n p ≡ Written m → (m ≡ n) × (n ≤ min p mostPlaces)
 unfolding readGround
 read-out (Bad b) l f n m p e = absurd (refused-not-read m b e)
 read-out Good (At a) f n m p e = absurd (let z : _≡_ {A = ℕ} 0 1 = cc in omega arith)
 read-out Good Nowhere (At a) n m p e = absurd (let z : _≡_ {A = ℕ} 0 1 = cc in omega arith)
 read-out Good Nowhere Nowhere n m p e = go (leb n (min p mostPlaces)) refl e
   where
-    go : (b : Bool) → leb n (min p mostPlaces) ≡ b → pick b (Read n) (Refused (NoRoom n)) ≡ Read m → (m ≡ n) × (n ≤ min p mostPlaces)
+    go : (b : Bool) → leb n (min p mostPlaces) ≡ b → pick b (Written n) (Refused (NoRoom n)) ≡ Written m → (m ≡ n) × (n ≤ min p mostPlaces)
     go true z e = (cc, leb-true n (min p mostPlaces) z)
     go false z e = absurd (refused-not-read m (NoRoom n) e)
 
@@ -116,34 +117,34 @@ module _ (s : List ℕ) (x : Span) where
   lacking p n e = lacking-out (textGround s) (blockOf s x .long) (blockOf s x .far) kept n p (text-ground s) (sym (is-out p) ∙ e)
 
   -- a readable block is read or lacks space
-  readable : (p : ℕ) → Readable s x → answer s x p ≡ pick (leb kept (min p mostPlaces)) (Read kept) (Refused (NoRoom kept))
+  readable : (p : ℕ) → Readable s x → answer s x p ≡ roomFor kept p
   unfolding readGround
   readable p h = is-out p ∙ rw (h .text, h .numerals, h .fades)
 
   -- what the records that a reading wrote are
-  wrote : (t : List ℕ) (n : ℕ) → answer s x (placesOf t) ≡ Read n → (n ≡ kept) × (written n (after s x t) ≡ tableWords (encode (blockOf s x .tags)))
+  wrote : (t : List ℕ) (n : ℕ) → answer s x (placesOf t) ≡ Written n → (n ≡ kept) × (written n (after s x t) ≡ tableWords (encode (blockOf s x .tags)))
   unfolding after
   wrote t n e =
       let rs = encode (blockOf s x .tags) in
       let c : kept ≡ length rs = count-length (blockOf s x .tags) in
       let h = read-out (textGround s) (blockOf s x .long) (blockOf s x .far) kept n (placesOf t) (sym (is-out (placesOf t)) ∙ e) in
-      let room : 8 * length (encode (blockOf s x .tags)) ≤ length t = omega (arith, h .1) in
-      let m : 8 * n ≡ length (tableWords rs) = ap (λ (k : ℕ). 8 * k) (h .0 ∙ c) ∙ sym (length-words rs) in
-      (h .0, rw (e, laid-full rs t room, m) (take-at (tableWords rs) (drop (8 * length rs) t) (length (tableWords rs)) refl))
+      let room : width * length (encode (blockOf s x .tags)) ≤ length t = omega (arith, h .1) in
+      let m : width * n ≡ length (tableWords rs) = ap (λ (k : ℕ). width * k) (h .0 ∙ c) ∙ sym (length-words rs) in
+      (h .0, rw (e, laid-full rs t room, m) (take-at (tableWords rs) (drop (width * length rs) t) (length (tableWords rs)) refl))
 
   -- a reading that succeeds has no ground 1, 2 or 4
-  read-good : (p n : ℕ) → answer s x p ≡ Read n → (textGround s ≡ Good) × (blockOf s x .far ≡ Nowhere) × (kept ≤ mostPlaces)
+  read-good : (p n : ℕ) → answer s x p ≡ Written n → (textGround s ≡ Good) × (blockOf s x .far ≡ Nowhere) × (kept ≤ mostPlaces)
   unfolding answer readGround
   read-good p n e = go (textGround s) (blockOf s x .long) (blockOf s x .far) refl refl e
     where
-      go : (c : Checked) (l f : Found) → textGround s ≡ c → blockOf s x .far ≡ f → out c l f kept p ≡ Read n → (textGround s ≡ Good) × (blockOf s x .far ≡ Nowhere) × (kept ≤ mostPlaces)
+      go : (c : Checked) (l f : Found) → textGround s ≡ c → blockOf s x .far ≡ f → out c l f kept p ≡ Written n → (textGround s ≡ Good) × (blockOf s x .far ≡ Nowhere) × (kept ≤ mostPlaces)
       go (Bad b) l f u v e = absurd (refused-not-read n b e)
       go Good (At a) f u v e = absurd (let z : _≡_ {A = ℕ} 0 1 = cc in omega arith)
       go Good Nowhere (At a) u v e = absurd (let z : _≡_ {A = ℕ} 0 1 = cc in omega arith)
       go Good Nowhere Nowhere u v e = (u, v, omega (arith, read-out Good Nowhere Nowhere kept n p e .1))
 
   -- 01: a table holds a block if the reading into it succeeded; `whole-in` and `braces-in` say that x lies inside the text for both calls
-  pub holds : SpanIn s x → (t : List ℕ) (n : ℕ) → answer s x (placesOf t) ≡ Read n → Holds (written n (after s x t)) (blockOf s x .tags)
+  pub holds : SpanIn s x → (t : List ℕ) (n : ℕ) → answer s x (placesOf t) ≡ Written n → Holds (written n (after s x t)) (blockOf s x .tags)
   holds inside t n e =
       let l = blockOf s x .tags in
       let g = read-good (placesOf t) n e in

@@ -1,33 +1,19 @@
 -- The answer and the table, from one run of the reader or from two.
 use mathlib.Core.Path.{_≡_, sym}
 use mathlib.Core.List.{List, [], _++_}
-use mathlib.Core.Logic.{⊎-elim}
-use Prim.Native.Nat.{ℕ, _+_, _/_, _≤_, _<_}
-use native.Mathlib.Omega.{arith}
-use lib.ListN.{length}
-use borrow.Author.Tests.{lt-ltb}
-use Rattle.scan.proofs.Laws.{le-or-lt}
-use Rattle.refusal.specs.Refusal.{mostBytes}
+use Prim.Native.Nat.{ℕ}
 use Rattle.refusal.specs.declared.Refusal.{Refusal}
 use Rattle.tag.specs.Table.{encode}
 use Rattle.tag.proofs.Table.{laid-none}
 use Rattle.read.specs.declared.Out.{Out}
-use Rattle.read.specs.declared.Reading.{Reading}
-use Rattle.read.specs.declared.Reading.the-variants.{Read, Refused}
+use Rattle.refusal.specs.declared.Answer.{Answer}
+use Rattle.refusal.specs.declared.Answer.the-variants.{Written, Refused}
 use Rattle.refusal.specs.declared.Checked.the-variants.{Good, Bad}
 use Rattle.read.specs.declared.Span.{Span}
-use Rattle.read.specs.Reading.{Told, keptTags, readGround, blockOf, answer, after, Answered}
+use Rattle.read.specs.Reading.{keptTags, readGround, blockOf, answer, after, Answered}
+use Rattle.read.specs.Inner.{Told}
 use Rattle.tag.specs.Table.{placesOf}
 use Rattle.refusal.specs.Refusal.{textGround}
-
--- a text with no ground 1 is short
-pub good-short : (s : List ℕ) → textGround s ≡ Good → length s ≤ mostBytes
-unfolding textGround
-good-short s e =
-    ⊎-elim
-    (λ (h : length s ≤ mostBytes). h)
-    (λ (h : mostBytes < length s). absurd (let z : _≡_ {A = ℕ} 0 1 = cc (rw (lt-ltb mostBytes (length s) h) at e) in omega arith))
-    (le-or-lt (length s) mostBytes)
 
 module _ (s : List ℕ) (x : Span) (t : List ℕ) where
   pub text-refused : (r : Refusal) → textGround s ≡ Bad r → Answered s x t (Refused r) t
@@ -35,7 +21,7 @@ module _ (s : List ℕ) (x : Span) (t : List ℕ) where
   text-refused r e = record { reading = rw e; table = rw e }
 
   -- one run, where nothing can stand against the text
-  pub straight : (seen : Out) (m : ℕ) (u : List ℕ) → answer s x (placesOf t) ≡ Read (keptTags (blockOf s x)) → Told t (blockOf s x) m seen u → Answered s x t (Read (seen .n)) u
+  pub straight : (seen : Out) (m : ℕ) (u : List ℕ) → answer s x (placesOf t) ≡ Written (keptTags (blockOf s x)) → Told t (blockOf s x) m seen u → Answered s x t (Written (seen .n)) u
   unfolding after
   straight seen m u e a = record { reading = rw (a .out) (sym e); table = rw (e, a .table) }
 
@@ -44,18 +30,18 @@ module _ (s : List ℕ) (x : Span) (t : List ℕ) where
     dry : l ++ t ≡ t
     dry = rw (a .table, laid-none (encode (blockOf s x .tags)))
 
-    is-answer : (r : Reading) → readGround (seen .long) (seen .far) (seen .n) (length (l ++ t) / 8) ≡ r → r ≡ answer s x (length t / 8)
+    is-answer : (r : Answer) → readGround (seen .long) (seen .far) (seen .n) (placesOf (l ++ t)) ≡ r → r ≡ answer s x (placesOf t)
     unfolding answer
     is-answer r e = sym (rw good (rw (dry, a .out) at e))
 
-    pub refused : (r : Refusal) → readGround (seen .long) (seen .far) (seen .n) (length (l ++ t) / 8) ≡ Refused r → Answered s x t (Refused r) (l ++ t)
+    pub refused : (r : Refusal) → readGround (seen .long) (seen .far) (seen .n) (placesOf (l ++ t)) ≡ Refused r → Answered s x t (Refused r) (l ++ t)
     unfolding after
     refused r e =
         let k = is-answer (Refused r) e in
         record { reading = k; table = rw (← k) dry }
 
-    pub done : (n : ℕ) (m′ : ℕ) (o : Out) (u : List ℕ) → readGround (seen .long) (seen .far) (seen .n) (length (l ++ t) / 8) ≡ Read n → Told (l ++ t) (blockOf s x) m′ o u → Answered s x t (Read n) u
+    pub done : (n : ℕ) (m′ : ℕ) (o : Out) (u : List ℕ) → readGround (seen .long) (seen .far) (seen .n) (placesOf (l ++ t)) ≡ Written n → Told (l ++ t) (blockOf s x) m′ o u → Answered s x t (Written n) u
     unfolding after
     done n m′ o u e b =
-        let k = is-answer (Read n) e in
+        let k = is-answer (Written n) e in
         record { reading = k; table = rw (← k) (rw dry at (b .table)) }

@@ -17,17 +17,18 @@ use Rattle.numeral.specs.Numeral.{F32, tooLong, number, f32At}
 use Rattle.lists.specs.Lists.{firstOf}
 use Rattle.lists.specs.declared.Found.{Found}
 use Rattle.lists.specs.declared.Found.the-variants.{Nowhere, At}
-use Rattle.tag.specs.Tag.{mostDepth, T, Tags, none, and, append}
+use Rattle.tag.specs.Tag.{mostDepth, Tags, none, and, append}
 use Rattle.tag.proofs.Tags.{count-map}
 use Rattle.plain.specs.Names.{keyAt, tKey}
 use Rattle.plain.specs.Plain.{One, no, long, kept, far, plainAt}
 use Rattle.read.specs.declared.Head.{Head}
-use Rattle.read.specs.Block.{Got, join, oneGot, paramAt, headAt, Peel, peeled, withHead, peelHead, headEnd, peel, peelTo, tOf, tagAt, walk, parse}
-use Rattle.read.specs.Moved.{movedPart, movedTag, movedTags, movedFound, moved, movedReading, innerText}
-use Rattle.read.specs.Reading.{keptTags, readGround, unlessBad, wholeText, blockOf, answer}
+use Rattle.read.specs.Block.{Got, join, oneGot, paramAt, headAt, Peel, peeled, withHead, peelHead, headEnd, peel, peelTo, tOf, tagAt, walk, tagsIn, tAt, parse}
+use Rattle.read.specs.Moved.{movedPart, movedTag, movedTags, movedFound, moved, movedAnswer, innerText}
+use Rattle.refusal.specs.Answer.{unlessBad}
+use Rattle.read.specs.Reading.{keptTags, readGround, wholeText, blockOf, answer}
 use Rattle.refusal.specs.Refusal.{mostPlaces, textGround}
 use Rattle.refusal.specs.declared.Refusal.the-variants.{NoRoom}
-use Rattle.read.specs.declared.Reading.the-variants.{Read, Refused}
+use Rattle.refusal.specs.declared.Answer.the-variants.{Written, Refused}
 use Rattle.read.specs.declared.Span.{Span}
 use Rattle.read.proofs.Parts.{SpanIn}
 use Rattle.read.proofs.MovedScan.{Window, On, either, if-lt, on, next, gap, ltb-on, eqb-on, byte, span-on, closing-on, past-on, trim-start-on}
@@ -152,12 +153,16 @@ module _ {w s : List ℕ} {k n : ℕ} (v : Window w s k n) where
         G : Got → Got → Type 0
         G x y = x ≡ moved k y
 
+  t-at-on : (d : ℕ) (p′ p q′ q : ℕ) → On k n p′ p → On k n q′ q → tAt d w p′ q′ ≡ moved k (tAt d s p q)
+  unfolding tAt movedTags
+  t-at-on zero p′ p q′ q h g = refl
+  t-at-on (suc d) p′ p q′ q h g =
+      let l = peel-on h g in
+      t-on (tagsIn (tAt d s) s (peelTo s p q .rest) q) l (rw (gap (l .rest) g) (walk-on (tAt d w) (tAt d s) (t-at-on d) (q - peelTo s p q .rest) (l .rest) g))
+
   parse-on : (d : ℕ) {i′ i e′ e : ℕ} → On k n i′ i → On k n e′ e → parse d w i′ e′ ≡ moved k (parse d s i e)
   unfolding parse movedTags
-  parse-on zero {i′} {i} {e′} {e} h g = rw (gap h g) (walk-on _ _ (λ p′ p q′ q a b. refl) (e - i) h g)
-  parse-on (suc d) {i′} {i} {e′} {e} h g =
-      rw (gap h g)
-      (walk-on _ _ (λ p′ p q′ q a b. let l = peel-on a b in t-on (parse d s (peelTo s p q .rest) q) l (parse-on d (l .rest) b)) (e - i) h g)
+  parse-on d {i′} {i} {e′} {e} h g = rw (gap h g) (walk-on (tAt d w) (tAt d s) (t-at-on d) (e - i) h g)
 
 -- ---- the law
 
@@ -185,13 +190,13 @@ kept-moved k g = count-map (movedPart k) (g .tags)
 
 -- ---- the part of a text that a call reads
 
-ground-moved : (k : ℕ) (l f : Found) (n places : ℕ) → readGround (movedFound k l) (movedFound k f) n places ≡ movedReading k (readGround l f n places)
+ground-moved : (k : ℕ) (l f : Found) (n places : ℕ) → readGround (movedFound k l) (movedFound k f) n places ≡ movedAnswer k (readGround l f n places)
 unfolding readGround
 ground-moved k (At p) f n places = refl
 ground-moved k Nowhere (At p) n places = refl
 ground-moved k Nowhere Nowhere n places = go (leb n (min places mostPlaces))
   where
-    go : (b : Bool) → pick b (Read n) (Refused (NoRoom n)) ≡ movedReading k (pick b (Read n) (Refused (NoRoom n)))
+    go : (b : Bool) → pick b (Written n) (Refused (NoRoom n)) ≡ movedAnswer k (pick b (Written n) (Refused (NoRoom n)))
     go true = refl
     go false = refl
 
@@ -217,7 +222,7 @@ module _ (s : List ℕ) (x : Span) (inside : SpanIn s x) where
       let w : length a + length inner ≡ x .to = rw (la, li) z in
       rw (e, w, la) at (block-moved a inner b mostDepth)
 
-  pub answer-inside : (places : ℕ) → let g = blockOf inner (wholeText inner) in answer s x places ≡ unlessBad (textGround s) (movedReading (x .from) (readGround (g .long) (g .far) (keptTags g) places))
+  pub answer-inside : (places : ℕ) → let g = blockOf inner (wholeText inner) in answer s x places ≡ unlessBad (textGround s) (movedAnswer (x .from) (readGround (g .long) (g .far) (keptTags g) places))
   unfolding answer
   answer-inside places =
       let g = blockOf inner (wholeText inner) in

@@ -22,7 +22,8 @@ use Rattle.plain.specs.Names.{keyAt, tKey}
 use Rattle.plain.specs.Plain.{plainAt}
 use Rattle.read.specs.declared.Head.{Head}
 use Rattle.read.specs.declared.Span.{Span}
-use Rattle.read.specs.Block.{Got, nothing, join, oneGot, paramAt, nameEnd, headAt, HeadIn, Peel, peeled, peelHead, headEnd, peel, peelTo, tOf, tagAt, walk, parse}
+use Rattle.read.specs.Block.{Got, nothing, join, oneGot, paramAt, nameEnd, headAt, Peel, peeled, peelHead, headEnd, peel, peelTo, tOf, tagAt, walk, tagsIn, tAt, parse}
+use Rattle.read.specs.Inner.{HeadIn}
 use Rattle.read.specs.Reading.{wholeText, braceEnd, lessBraces}
 use Rattle.scan.proofs.Bounds.{tested, span-to-high, past-high, trim-start-low, trim-start-high, trim-end-low, trim-end-high}
 use Rattle.tag.specs.WellFormed.{All, all, more}
@@ -211,13 +212,17 @@ module _ (s : List ℕ) (top : ℕ) (P : ℕ → ℕ → ℕ → Got → Type 0)
       skip)
       (λ (l : e ≤ i). none-has d i e h)
 
+  t-at-has : (d i p q e : ℕ) → getD s i 0 ≡ 92 → i < p → p ≤ q → q ≤ e → q ≤ top → Ends s top q → P d i e (tAt d s p q)
+  unfolding tAt
+  t-at-has zero i p q e z a b c m n = none-has zero i e (omega arith)
+  t-at-has (suc d) i p q e z a b c m n =
+      let l = peelTo s p q in
+      let f = peel-to-in s top p q b m n in
+      t-has d i p q e l (tagsIn (tAt d s) s (l .rest) q) z a c f (walk-has d (tAt d s) (t-at-has d) q (q - l .rest) (l .rest) (f .high) m n)
+
   pub parse-has : (d i e : ℕ) → i ≤ e → e ≤ top → Ends s top e → P d i e (parse d s i e)
   unfolding parse
-  parse-has zero i e h g k = walk-has zero (λ p q. nothing) (λ i p q e z a b c m n. none-has zero i e (omega arith)) e (e - i) i h g k
-  parse-has (suc d) i e h g k =
-      walk-has (suc d) (λ p q. let l = peelTo s p q in tOf l (parse d s (l .rest) q))
-      (λ i p q e z a b c m n. let l = peel-to-in s top p q b m n in t-has d i p q e (peelTo s p q) (parse d s (peelTo s p q .rest) q) z a c l (parse-has d (peelTo s p q .rest) q (l .high) m n))
-      e (e - i) i h g k
+  parse-has d i e h g k = walk-has d (tAt d s) (t-at-has d) e (e - i) i h g k
 
 -- ---- the part of the text that a call reads
 

@@ -16,7 +16,7 @@ use Rattle.lists.specs.declared.Found.{Found}
 use Rattle.lists.specs.declared.Found.the-variants.{At}
 use Rattle.tag.specs.Table.{bits}
 use Rattle.read.specs.Block.{Peel, peeled, peelHead, headEnd, peel}
-use Rattle.read.specs.Heads.{headed, headsFrom, noHeads, Peels}
+use Rattle.read.specs.Inner.{headed, headsFrom, noHeads, Peels}
 use Rattle.read.specs.declared.Heads.{Heads}
 
 -- at the end nothing comes behind a head

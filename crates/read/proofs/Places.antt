@@ -1,21 +1,14 @@
 -- Every place and count that an answer names lies within the text.
 use mathlib.Core.Path.{_≡_, refl}
 use mathlib.Core.List.{List}
-use mathlib.Core.Bool.{Bool, true, false}
 use mathlib.Core.Logic.{inl}
 use Prim.Native.Nat.{ℕ, _+_, _-_, _≤_, _<_, min}
 use native.Mathlib.Omega.{arith}
 use native.Mathlib.Nat.{le-refl, le-trans}
-use lib.Dec.{leb}
 use lib.ListN.{length, getD}
-use Rattle.scan.specs.Scan.{pick, inClass, spanTo}
-use Rattle.scan.specs.declared.Class.the-variants.{Below}
-use Rattle.scan.proofs.Laws.{picked}
 use Rattle.refusal.specs.Refusal.{mostBytes, mostPlaces, textGround}
-use Rattle.refusal.specs.declared.Checked.{Checked}
-use Rattle.refusal.specs.declared.Checked.the-variants.{Good, Bad}
-use Rattle.refusal.specs.declared.Refusal.the-variants.{NoRoom}
-use borrow.Author.Tests.{le-leb, leb-true}
+use Rattle.refusal.specs.declared.Checked.the-variants.{Good}
+use borrow.Author.Tests.{le-leb}
 use Rattle.survey.specs.Survey.{slashesTo, Straight}
 use Rattle.survey.proofs.Laws.{unplain-wider, slashes-one, slashes-split, slashes-inside, slashes-most}
 use Rattle.lists.specs.declared.Found.{Found}
@@ -25,14 +18,12 @@ use Rattle.tag.proofs.Tags.{count-none, count-single, count-and, count-append}
 use Rattle.plain.specs.Plain.{One}
 use Rattle.plain.proofs.Gives.{Single}
 use Rattle.plain.proofs.Bridge.{plain-single}
-use Rattle.read.specs.declared.Reading.{Reading}
-use Rattle.read.specs.declared.Reading.the-variants.{Read, Refused}
-use Rattle.read.proofs.Answer.{good-short}
+use Rattle.refusal.specs.declared.Answer.the-variants.{Written}
+use Rattle.refusal.proofs.Laws.{good-short, Within, room-within, text-within, Few, room-few, unless-few}
 use Rattle.read.specs.declared.Span.{Span}
 use Rattle.read.specs.Block.{headTimes, headAccel, Got, nothing as none, join, oneGot, Peel, tOf, parse}
 use Rattle.tag.specs.Tag.{mostDepth}
-use Rattle.read.specs.Reading.{keptTags, readGround, unlessBad, blockOf, answer, groundPlace}
-use Rattle.scan.proofs.Bounds.{tested}
+use Rattle.read.specs.Reading.{keptTags, readGround, blockOf, answer}
 use Rattle.read.proofs.Inside.{Between, nowhere, there, between-at, between-wider, between-first, between-none}
 use Rattle.read.proofs.Fine.{Fine, nothing, late, tag, away, plain-fine}
 use Rattle.read.proofs.Parts.{PeelIn, parse-has, SpanIn}
@@ -96,7 +87,7 @@ module _ (d : ℕ) (s : List ℕ) (i e : ℕ) (order : i ≤ e) (short : e ≤ m
 -- ---- a plain text
 
 -- where a first look finds nothing, all kept tags are read: grounds 3, 4 and 9 cannot stand
-pub straight-read : (s : List ℕ) (x : Span) (places : ℕ) → SpanIn s x → textGround s ≡ Good → Straight s (x .from) (x .to) (min places mostPlaces) → answer s x places ≡ Read (keptTags (blockOf s x))
+pub straight-read : (s : List ℕ) (x : Span) (places : ℕ) → SpanIn s x → textGround s ≡ Good → Straight s (x .from) (x .to) (min places mostPlaces) → answer s x places ≡ Written (keptTags (blockOf s x))
 unfolding answer readGround
 straight-read s x places inside good f =
     let r = placed mostDepth s (x .from) (x .to) (inside .order) (le-trans (inside .high) (good-short s good)) in
@@ -104,62 +95,32 @@ straight-read s x places inside good f =
 
 -- ---- an answer
 
-ground-placed : {s : List ℕ} {top i e n : ℕ} {f g : Found} (places : ℕ) → Between s top i e f → Between s top i e g → n ≤ e - i → groundPlace (readGround f g n places) ≤ e
-unfolding readGround
-ground-placed places (there p a b u) v h = omega arith
-ground-placed places nowhere (there p a b u) h = omega arith
-ground-placed {e = e} {n = n} places nowhere nowhere h = picked (λ (r : Reading). groundPlace r ≤ e) (leb n (min places mostPlaces)) _ _ (omega arith) (omega arith)
-
 -- x is the part of the text that a call reads
-module _ (s : List ℕ) (x : Span) (places : ℕ) (inside : SpanIn s x) where
-  abbrev Within : Reading → Type 0
-  Within r = (groundPlace r ≤ length s) × (groundPlace r ≤ mostBytes)
+module _ (s : List ℕ) (x : Span) (places : ℕ) where
+  module _ (inside : SpanIn s x) where
+    read-within : length s ≤ mostBytes → Within s (readGround (blockOf s x .long) (blockOf s x .far) (keptTags (blockOf s x)) places)
+    unfolding readGround
+    read-within l =
+        let r = placed mostDepth s (x .from) (x .to) (inside .order) (le-trans (inside .high) l) in
+        go (r .long) (r .far) (le-trans (le-trans (r .few) (slashes-most s (x .from) (x .to))) (omega (arith, inside .high)))
+      where
+        go : {f g : Found} {n : ℕ} → Between s (x .to) (x .from) (x .to) f → Between s (x .to) (x .from) (x .to) g → n ≤ length s → Within s (readGround f g n places)
+        go (there p a b u) v h = (omega (arith, inside .high), omega (arith, inside .high))
+        go nowhere (there p a b u) h = (omega (arith, inside .high), omega (arith, inside .high))
+        go {n = n} nowhere nowhere h = room-within s n places l h
 
-  abbrev read : Reading
-  read = readGround (blockOf s x .long) (blockOf s x .far) (keptTags (blockOf s x)) places
+    -- the place or count of an answer
+    pub ground-within : Within s (answer s x places)
+    unfolding answer
+    ground-within = text-within s (readGround (blockOf s x .long) (blockOf s x .far) (keptTags (blockOf s x)) places) read-within
 
-  read-within : length s ≤ mostBytes → Within read
-  read-within l =
-      let r = placed mostDepth s (x .from) (x .to) (inside .order) (le-trans (inside .high) l) in
-      let m = ground-placed places (r .long) (r .far) (le-trans (r .few) (slashes-most s (x .from) (x .to))) in
-      (le-trans m (inside .high), le-trans m (le-trans (inside .high) l))
+  few-ground : (f g : Found) (n : ℕ) → Few (readGround f g n places)
+  unfolding readGround
+  few-ground (At p) g n = tt
+  few-ground Nowhere (At p) n = tt
+  few-ground Nowhere Nowhere n = room-few n places
 
-  -- 01, Grounds: "Each gives its number and the stated place or count (else 0)": that is no more than the text has bytes, and no more than 12,288
-  pub ground-within : (groundPlace (answer s x places) ≤ length s) × (groundPlace (answer s x places) ≤ mostBytes)
-  unfolding answer textGround
-  ground-within =
-      let a = spanTo (inClass (Below 128)) s 0 (length s) in
-      tested Lies mostBytes (length s)
-      (λ (l : mostBytes < length s). (omega arith, omega arith))
-      (λ (l : length s ≤ mostBytes). tested Lies a (length s) (λ (k : a < length s). (omega arith, omega arith)) (λ (k : length s ≤ a). read-within l))
-    where
-      Lies : Checked → Type 0
-      Lies c = Within (unlessBad c read)
-
--- an answer counts at most 1,024 records
-abbrev Few : Reading → Type 0
-Few (Read n) = n ≤ mostPlaces
-Few (Refused r) = Unit
-
-few-ground : (f g : Found) (n places : ℕ) → Few (readGround f g n places)
-unfolding readGround
-few-ground (At p) g n places = tt
-few-ground Nowhere (At p) n places = tt
-few-ground Nowhere Nowhere n places = go (leb n (min places mostPlaces)) refl
-  where
-    go : (b : Bool) → leb n (min places mostPlaces) ≡ b → Few (pick b (Read n) (Refused (NoRoom n)))
-    go true e = omega (arith, leb-true n (min places mostPlaces) e)
-    go false e = tt
-
-few : (s : List ℕ) (x : Span) (places : ℕ) → Few (answer s x places)
-unfolding answer
-few s x places = go (textGround s)
-  where
-    go : (c : Checked) → Few (unlessBad c (readGround (blockOf s x .long) (blockOf s x .far) (keptTags (blockOf s x)) places))
-    go Good = few-ground (blockOf s x .long) (blockOf s x .far) (keptTags (blockOf s x)) places
-    go (Bad r) = tt
-
-pub few-read : (s : List ℕ) (x : Span) (places n : ℕ) → answer s x places ≡ Read n → n ≤ mostPlaces
-few-read s x places n e =
-    let h : Few (Read n) = rw e at (few s x places) in
-    h
+  -- an answer counts at most 1,024 records
+  pub few-read : Few (answer s x places)
+  unfolding answer
+  few-read = unless-few (textGround s) _ (few-ground (blockOf s x .long) (blockOf s x .far) (keptTags (blockOf s x)))

@@ -2,7 +2,7 @@
 use mathlib.Core.Path.{_≡_, refl}
 use mathlib.Core.List.{List}
 use mathlib.Core.Logic.{inl}
-use Prim.Native.Nat.{ℕ, suc, _+_, _≤_}
+use Prim.Native.Nat.{ℕ, _+_, _≤_}
 use native.Mathlib.Omega.{arith}
 use native.Mathlib.Nat.{le-refl, le-trans}
 use lib.Ieee.{Float, ofBits, toBits}
@@ -26,7 +26,7 @@ use Rattle.read.specs.Block.{oneGot, headTimes, headAccel, parse}
 use Rattle.read.specs.Reading.{blockOf}
 use Rattle.read.proofs.Words.{Fits, float-fits, cut-fits, cut-back, sound-tag}
 use Rattle.read.proofs.Fine.{Fine, nothing, late, tag, away, plain-fine}
-use Rattle.read.proofs.Answer.{good-short}
+use Rattle.refusal.proofs.Laws.{good-short}
 use Rattle.read.proofs.Parts.{parse-has, SpanIn}
 
 one-fits : Fits Range.float (bits one)

@@ -4,7 +4,6 @@ use mathlib.Core.List.{List, [], _∷_, _++_, append-nil}
 use Prim.Native.Nat.{ℕ, zero, suc, _+_, _-_, _*_, _≤_, min}
 use native.Mathlib.Omega.{arith}
 use native.Mathlib.Nat.{zero-min}
-use native.Mathlib.Numerals.{add-one}
 use lib.Ieee.{Float, toBits}
 use lib.Dec.{ltb, eqb}
 use Rattle.scan.specs.Scan.{trimStart}
@@ -19,7 +18,7 @@ use Rattle.float.specs.Float.{toWord}
 use Rattle.numeral.specs.Numeral.{F32, number, tooLong, f32At}
 use Rattle.rows.specs.Rows.{laidRows}
 use Rattle.rows.proofs.Laws.{rest-is, rest-back}
-use Rattle.tag.specs.Table.{records, encode, laid, bits, tRecord}
+use Rattle.tag.specs.Table.{width, records, encode, laid, bits, tRecord}
 use Rattle.tag.specs.declared.Record.{Record}
 use Rattle.tag.proofs.Table.{length-laid, laid-t, laid-step}
 use Rattle.tag.specs.Tag.{T, Tags, and, count}
@@ -34,9 +33,8 @@ use Rattle.read.specs.declared.Out.{Out}
 use Rattle.read.specs.declared.Heads.{Heads}
 use Rattle.read.specs.declared.Peeled.{Peeled}
 use Rattle.read.specs.Block.{Got, nothing, join, oneGot, Peel, peelHead, peel, peelTo, headTimes, headAccel, headEnd, parse, tAt}
-use Rattle.read.specs.Heads.{headed, headsFrom, noHeads, tWords, Peels}
-use Rattle.read.specs.Kept.{keptRecords, keptGot, joinedOut, aroundOut}
-use Rattle.read.specs.Reading.{keptTags, Told}
+use Rattle.read.specs.Inner.{headed, headsFrom, noHeads, tWords, Peels, keptRecords, keptGot, joinedOut, aroundOut, Told}
+use Rattle.read.specs.Reading.{keptTags}
 use Rattle.read.proofs.Walk.{t-more}
 
 -- ---- a plain tag
@@ -105,7 +103,7 @@ length-part t rs k h = simp (length-append, length-laid) (omega (arith, length-t
 
 -- what `parse_t` says, from what its calls say
 module _ (d : ℕ) (s : List ℕ) (p q : ℕ) (t : List ℕ) (l : Peeled) (o r : Out) (k : ℕ) (x : Record) (u v : List ℕ) where
-  pub t-told : ¬ (d ≡ 0) → Peels p q (peelTo s p q) l → Told (take (length t - k) (drop k t)) (parse (d - 1) s (l .rest) q) (q - l .rest) o u → k ≡ min 8 (length t)
+  pub t-told : ¬ (d ≡ 0) → Peels p q (peelTo s p q) l → Told (take (length t - k) (drop k t)) (parse (d - 1) s (l .rest) q) (q - l .rest) o u → k ≡ min width (length t)
       → x ≡ tWords (l .heads) (o .n) → v ≡ laid (take k t ++ (u ++ drop (length t - k) (drop k t))) (x ∷ []) → r ≡ aroundOut (l .long) o
       → Told t (tAt d s p q) (q - p + 1) r v
   unfolding encode
@@ -139,7 +137,7 @@ first-end (At p) = refl
 -- where a block's reading stands: `all` is what it gives, `rest` what is still to come, t the table and o the result now
 pub record Turning (t₀ : List ℕ) (all rest : Got) (t : List ℕ) (o : Out) : Type 0 where
   pub len : length t ≡ length t₀
-  pub table : laid t₀ (encode (all .tags)) ≡ take (min (8 * o .n) (length t)) t ++ laid (drop (min (8 * o .n) (length t)) t) (encode (rest .tags))
+  pub table : laid t₀ (encode (all .tags)) ≡ take (min (width * o .n) (length t)) t ++ laid (drop (min (width * o .n) (length t)) t) (encode (rest .tags))
   pub count : o .n + keptTags rest ≡ keptTags all
   pub long : all .long ≡ firstOf (o .long) (rest .long)
   pub far : all .far ≡ firstOf (o .far) (rest .far)
@@ -147,7 +145,7 @@ pub record Turning (t₀ : List ℕ) (all rest : Got) (t : List ℕ) (o : Out) :
 pub turning-start : (t : List ℕ) (g : Got) → Turning t g g t (record { n = 0; long = Nowhere; far = Nowhere })
 turning-start t g = record { len = refl; table = simp zero-min; count = omega arith; long = refl; far = refl }
 
-pub turning-turn : {t₀ t u : List ℕ} {all rest g : Got} {o o′ r : Out} {k most : ℕ} → Turning t₀ all (join g rest) t o → k ≡ min (8 * o .n) (length t)
+pub turning-turn : {t₀ t u : List ℕ} {all rest g : Got} {o o′ r : Out} {k most : ℕ} → Turning t₀ all (join g rest) t o → k ≡ min (width * o .n) (length t)
     → Told (take (length t - k) (drop k t)) g most o′ u → r ≡ joinedOut o o′ → Turning t₀ all rest (take k t ++ (u ++ drop (length t - k) (drop k t))) r
 turning-turn {t₀} {t} {u} {all} {rest} {g} {o} {o′} {r} {k} {most} l e a f =
     let x = encode (g .tags) in
@@ -158,7 +156,7 @@ turning-turn {t₀} {t} {u} {all} {rest} {g} {o} {o′} {r} {k} {most} l e a f =
     let b : o′ .long ≡ g .long = ap (λ (y : Out). y .long) (a .out) in
     let d : o′ .far ≡ g .far = ap (λ (y : Out). y .far) (a .out) in
     let ea = encode-append (g .tags) (rest .tags) in
-    let s = laid-step t x (encode (rest .tags)) (o .n) k (min (8 * (o .n + length x)) (length t)) e refl in
+    let s = laid-step t x (encode (rest .tags)) (o .n) k (min (width * (o .n + length x)) (length t)) e refl in
     record {
       len = rw w (n ∙ l .len);
       table = rw (w, n, f, m) (l .table ∙ rw (ea, ← e) s);
@@ -173,4 +171,4 @@ turning-end {t₀} {t} {all} {o} {most} l h =
     let m : keptTags all ≡ o .n = omega (arith, l .count, count-none) in
     let b : all .long ≡ o .long = l .long ∙ first-end (o .long) in
     let d : all .far ≡ o .far = l .far ∙ first-end (o .far) in
-    record { out = rw (m, b, d); table = sym (l .table ∙ take-append-drop (min (8 * o .n) (length t)) t); few = h }
+    record { out = rw (m, b, d); table = sym (l .table ∙ take-append-drop (min (width * o .n) (length t)) t); few = h }

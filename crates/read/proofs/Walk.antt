@@ -52,9 +52,8 @@ module _ (inner : ℕ → ℕ → Got) (s : List ℕ) (e : ℕ) where
       rw (fuel n m (i + 1) (omega arith) (omega arith), fuel n m (headAt s i e .next) (omega arith) (omega arith))
 
 parse-walk : (d : ℕ) (s : List ℕ) (i e : ℕ) → parse d s i e ≡ walk (tAt d s) s e (e - i) i
-unfolding parse tAt
-parse-walk zero s i e = refl
-parse-walk (suc d) s i e = refl
+unfolding parse
+parse-walk d s i e = refl
 
 module _ (d : ℕ) (s : List ℕ) (i e : ℕ) where
   pub parse-end : e ≤ i → parse d s i e ≡ nothing
@@ -106,7 +105,7 @@ module _ (inner : ℕ → ℕ → Got) (s : List ℕ) (i : ℕ) (h : Head) where
 
 -- a \t where one more level is allowed
 pub t-more : (d : ℕ) (s : List ℕ) (p q : ℕ) → ¬ (d ≡ 0) → tAt d s p q ≡ tOf (peelTo s p q) (parse (d - 1) s (peelTo s p q .rest) q)
-unfolding tAt
+unfolding tAt parse
 t-more zero s p q h = absurd (h refl)
 t-more (suc d) s p q h =
     let z : suc d - 1 ≡ d = omega arith in

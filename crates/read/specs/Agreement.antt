@@ -11,7 +11,7 @@ use Rattle.tag.specs.Tag.{Tags}
 use Rattle.tag.specs.Table.{width, encode, tableWords}
 use Rattle.tag.specs.WellFormed.{WellFormed}
 use Rattle.tag.specs.Decode.{tagsOf}
-use Rattle.read.specs.declared.Reading.the-variants.{Read, Refused}
+use Rattle.refusal.specs.declared.Answer.the-variants.{Written, Refused}
 use Rattle.refusal.specs.declared.Checked.the-variants.{Good}
 use Rattle.read.specs.declared.Span.{Span}
 use Rattle.read.specs.Reading.{blockOf, keptTags, answer, after}
@@ -44,6 +44,6 @@ pub record Agreement (s : List ℕ) (x : Span) (t u : List ℕ) : Type 0 where
   -- and where they exceed it, space is refused
   pub lacks : Readable s x → min (placesOf t) mostPlaces < keptTags (blockOf s x) → answer s x (placesOf t) ≡ Refused (NoRoom (keptTags (blockOf s x)))
   -- otherwise all kept tags are read
-  pub fits : Readable s x → keptTags (blockOf s x) ≤ min (placesOf t) mostPlaces → answer s x (placesOf t) ≡ Read (keptTags (blockOf s x))
+  pub fits : Readable s x → keptTags (blockOf s x) ≤ min (placesOf t) mostPlaces → answer s x (placesOf t) ≡ Written (keptTags (blockOf s x))
   -- where both tables hold the block, they hold as many records and the same words
-  pub same : (n m : ℕ) → answer s x (placesOf t) ≡ Read n → answer s x (placesOf u) ≡ Read m → (n ≡ m) × (written n (after s x t) ≡ written n (after s x u))
+  pub same : (n m : ℕ) → answer s x (placesOf t) ≡ Written n → answer s x (placesOf u) ≡ Written m → (n ≡ m) × (written n (after s x t) ≡ written n (after s x u))

@@ -1,8 +1,7 @@
 -- A block's tags: Rust's `parse_overrides`, `read_param`, `parse_one`, `parse_t`, `peel_leading_numbers`, by positions of the whole text s.
 -- 01, Reading.
-use mathlib.Core.Path.{_≡_}
 use mathlib.Core.List.{List, [], _∷_}
-use Prim.Native.Nat.{ℕ, zero, suc, _+_, _-_, _≤_}
+use Prim.Native.Nat.{ℕ, zero, suc, _+_, _-_}
 use lib.Dec.{ltb, eqb}
 use lib.Ieee.{Float}
 use lib.ListN.{getD}
@@ -117,22 +116,15 @@ walk inner s e (suc n) i =
     let tag = join (tagAt inner s i h) (walk inner s e n (h .next)) in
     pick (ltb i e) (pick (eqb (getD s i 0) 92) (pick (eqb (h .end) (i + 1)) skip tag) skip) nothing
 
--- `parse_overrides_depth` from i to e, with d more levels of \t allowed
-unfoldable pub parse : ℕ → List ℕ → ℕ → ℕ → Got
-parse zero s i e = walk (λ p q. nothing) s e (e - i) i
-parse (suc d) s i e = walk (λ p q. let l = peelTo s p q in tOf l (parse d s (l .rest) q)) s e (e - i) i
+-- the tags from i to e
+abbrev pub tagsIn : (ℕ → ℕ → Got) → List ℕ → ℕ → ℕ → Got
+tagsIn inner s i e = walk inner s e (e - i) i
 
--- `parse_t`
+-- `parse_t`, with d more levels of \t allowed: its numbers, and the tags behind them with one level less
 unfoldable pub tAt : ℕ → List ℕ → ℕ → ℕ → Got
 tAt zero s p q = nothing
-tAt (suc d) s p q = let l = peelTo s p q in tOf l (parse d s (l .rest) q)
+tAt (suc d) s p q = let l = peelTo s p q in tOf l (tagsIn (tAt d s) s (l .rest) q)
 
--- a tag's places: what a definition names, in order, up to e
-pub record HeadIn (name i e : ℕ) (d r : Head) : Type 0 where
-  pub is : r ≡ d
-  pub name-is : r .name ≡ name
-  pub end-is : r .end ≡ i
-  pub low : i ≤ r .p
-  pub order : r .p ≤ r .q
-  pub next-low : r .q ≤ r .next
-  pub high : r .next ≤ e
+-- `parse_overrides_depth` from i to e, with d more levels of \t allowed
+unfoldable pub parse : ℕ → List ℕ → ℕ → ℕ → Got
+parse d s i e = tagsIn (tAt d s) s i e

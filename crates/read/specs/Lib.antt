@@ -1,7 +1,6 @@
 pub mod Block
-pub mod Heads
-pub mod Kept
 pub mod Reading
+pub mod Inner
 pub mod Agreement
 pub mod Sheet
 pub mod Moved

@@ -6,8 +6,8 @@ use lib.ListN.{take, drop}
 use Rattle.scan.specs.Scan.{pick}
 use Rattle.refusal.specs.declared.Refusal.{Refusal}
 use Rattle.refusal.specs.declared.Refusal.the-variants.{TextTooLong, NotAscii, NumeralTooLong, FadeTooFar, TableMalformed, TimeOutOfRange, ScaleTooLarge, NameBeyondText, NoRoom}
-use Rattle.read.specs.declared.Reading.{Reading}
-use Rattle.read.specs.declared.Reading.the-variants.{Read, Refused}
+use Rattle.refusal.specs.declared.Answer.{Answer}
+use Rattle.refusal.specs.declared.Answer.the-variants.{Written, Refused}
 use Rattle.read.specs.declared.Span.{Span}
 use Rattle.lists.specs.declared.Found.{Found}
 use Rattle.lists.specs.declared.Found.the-variants.{Nowhere, At}
@@ -45,9 +45,9 @@ movedRefusal k ScaleTooLarge = ScaleTooLarge
 movedRefusal k NameBeyondText = NameBeyondText
 movedRefusal k (NoRoom n) = NoRoom n
 
-abbrev pub movedReading : ℕ → Reading → Reading
-movedReading k (Read n) = Read n
-movedReading k (Refused r) = Refused (movedRefusal k r)
+abbrev pub movedAnswer : ℕ → Answer → Answer
+movedAnswer k (Written n) = Written n
+movedAnswer k (Refused r) = Refused (movedRefusal k r)
 
 -- the part x of a text, as a text of its own
 abbrev pub innerText : List ℕ → Span → List ℕ

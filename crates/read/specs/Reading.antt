@@ -1,23 +1,21 @@
 -- What the two reading calls answer, and what the table holds afterwards.
 use mathlib.Core.Path.{_≡_}
 use mathlib.Core.List.{List}
-use Prim.Native.Nat.{ℕ, _-_, _≤_, min}
-use lib.Dec.{ltb, leb, eqb}
+use Prim.Native.Nat.{ℕ, _-_}
+use lib.Dec.{ltb, eqb}
 use lib.ListN.{length, getD}
 use Rattle.scan.specs.Scan.{pick, inClass, past, trimStart, trimEnd}
 use Rattle.scan.specs.declared.Class.the-variants.{Is}
 use Rattle.lists.specs.declared.Found.{Found}
 use Rattle.lists.specs.declared.Found.the-variants.{Nowhere, At}
-use Rattle.refusal.specs.Refusal.{numberOf, placeOf, mostPlaces, textGround}
-use Rattle.refusal.specs.declared.Refusal.the-variants.{NumeralTooLong, FadeTooFar, NoRoom}
+use Rattle.refusal.specs.Refusal.{textGround}
+use Rattle.refusal.specs.declared.Refusal.the-variants.{NumeralTooLong, FadeTooFar}
 use Rattle.tag.specs.Tag.{count}
 use Rattle.tag.specs.Table.{encode, laid, placesOf}
-use Rattle.read.specs.declared.Out.{Out}
-use Rattle.read.specs.declared.Reading.{Reading}
-use Rattle.read.specs.declared.Reading.the-variants.{Read, Refused}
+use Rattle.refusal.specs.declared.Answer.{Answer}
+use Rattle.refusal.specs.declared.Answer.the-variants.{Refused}
+use Rattle.refusal.specs.Answer.{roomFor, unlessBad, tableAfter}
 use Rattle.read.specs.declared.Span.{Span}
-use Rattle.refusal.specs.declared.Checked.{Checked}
-use Rattle.refusal.specs.declared.Checked.the-variants.{Good, Bad}
 use Rattle.read.specs.Block.{Got, parse}
 use Rattle.tag.specs.Tag.{mostDepth}
 
@@ -25,24 +23,11 @@ use Rattle.tag.specs.Tag.{mostDepth}
 abbrev pub keptTags : Got → ℕ
 keptTags g = count (g .tags)
 
--- what a reader of the cycle says of its result r and of the table, t before and u after
-abbrev pub outOf : Got → Out
-outOf g = record { n = keptTags g; long = g .long; far = g .far }
-
-pub record Told (t : List ℕ) (g : Got) (most : ℕ) (r : Out) (u : List ℕ) : Type 0 where
-  pub out : r ≡ outOf g
-  pub table : u ≡ laid t (encode (g .tags))
-  pub few : r .n ≤ most
-
 -- grounds 3, 4 and 9, on what the text gives and the number of places in the table
-unfoldable pub readGround : Found → Found → ℕ → ℕ → Reading
+unfoldable pub readGround : Found → Found → ℕ → ℕ → Answer
 readGround (At p) far n places = Refused (NumeralTooLong p)
 readGround Nowhere (At p) n places = Refused (FadeTooFar p)
-readGround Nowhere Nowhere n places = pick (leb n (min places mostPlaces)) (Read n) (Refused (NoRoom n))
-
-abbrev pub unlessBad : Checked → Reading → Reading
-unlessBad (Bad r) x = Refused r
-unlessBad Good x = x
+readGround Nowhere Nowhere n places = roomFor n places
 
 -- the part of the text that is read: all of it, or what `parse_raw_block` leaves: trimmed, less one { and one }
 abbrev pub wholeText : List ℕ → Span
@@ -50,11 +35,6 @@ wholeText s = record { from = 0; to = length s }
 
 abbrev pub braceEnd : List ℕ → ℕ → ℕ → ℕ
 braceEnd s p b = pick (ltb p b) (pick (eqb (getD s (b - 1) 0) 125) (b - 1) b) b
-
-pub record BraceEnd (s : List ℕ) (p b r : ℕ) : Type 0 where
-  pub is : r ≡ braceEnd s p b
-  pub low : p ≤ r
-  pub high : r ≤ b
 
 unfoldable pub lessBraces : List ℕ → Span
 lessBraces s =
@@ -68,29 +48,16 @@ abbrev pub blockOf : List ℕ → Span → Got
 blockOf s x = parse mostDepth s (x .from) (x .to)
 
 -- the answer of a reading call
-unfoldable pub answer : List ℕ → Span → ℕ → Reading
+unfoldable pub answer : List ℕ → Span → ℕ → Answer
 answer s x places =
     let g = blockOf s x in
     unlessBad (textGround s) (readGround (g .long) (g .far) (keptTags g) places)
 
 -- the table afterwards: the records and then every old word; on a refusal every old word
-abbrev pub tableAfter : Reading → List ℕ → Got → List ℕ
-tableAfter (Read n) t g = laid t (encode (g .tags))
-tableAfter (Refused r) t g = t
-
 unfoldable pub after : List ℕ → Span → List ℕ → List ℕ
-after s x t = tableAfter (answer s x (placesOf t)) t (blockOf s x)
-
--- the answer's ground, 0 for none; its place or count
-abbrev pub groundNumber : Reading → ℕ
-groundNumber (Read n) = 0
-groundNumber (Refused r) = numberOf r
-
-abbrev pub groundPlace : Reading → ℕ
-groundPlace (Read n) = 0
-groundPlace (Refused r) = placeOf r
+after s x t = tableAfter (answer s x (placesOf t)) (laid t (encode (blockOf s x .tags))) t
 
 -- what a reading call says: the answer r, and the table t before and u after
-pub record Answered (s : List ℕ) (x : Span) (t : List ℕ) (r : Reading) (u : List ℕ) : Type 0 where
+pub record Answered (s : List ℕ) (x : Span) (t : List ℕ) (r : Answer) (u : List ℕ) : Type 0 where
   pub reading : r ≡ answer s x (placesOf t)
   pub table : u ≡ after s x t

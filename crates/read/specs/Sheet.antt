@@ -16,9 +16,9 @@ use Rattle.tag.specs.Tag.{append, count}
 use Rattle.tag.specs.Table.{rec, records, encode}
 use Rattle.plain.specs.Names.{names, lookup, lowered, keyAt}
 use Rattle.plain.specs.Plain.{part, f32s, i32s, allFloats, floatsIn, allInts, intsIn, unlessLong, pairOf, moveOf, fadOf, fadeOf, rangedOf, weightOf, flagOf, clipOf, resetOf, shaped, isFn, isNamedReset, plainAt}
-use Rattle.read.specs.declared.Reading.{Reading}
-use Rattle.read.specs.declared.Reading.the-variants.{Read, Refused}
-use Rattle.read.specs.Block.{paramAt, peel, tagAt, walk, parse}
+use Rattle.refusal.specs.declared.Answer.{Answer}
+use Rattle.refusal.specs.declared.Answer.the-variants.{Written, Refused}
+use Rattle.read.specs.Block.{paramAt, peel, tagAt, walk, tAt, parse}
 use Rattle.read.specs.Reading.{readGround, wholeText, lessBraces, blockOf, answer}
 use Rattle.refusal.specs.Refusal.{textGround}
 
@@ -30,7 +30,7 @@ abbrev rawRecordsOf : String → List Record
 rawRecordsOf t = encode (blockOf (bytes t) (lessBraces (bytes t)) .tags)
 
 -- the answer, into a table of 1,024 places
-abbrev answerOf : String → Reading
+abbrev answerOf : String → Answer
 answerOf t = answer (bytes t) (wholeText (bytes t)) 1024
 
 -- that each text gives what stands beside it
@@ -58,7 +58,7 @@ pub tables : Gives recordsOf (
     ("\\fs(nan)", []) ∷
     ("\\\\\\i1", rec 43 1 0 0 0 0 0 0 ∷ []) ∷
     [])
-unfolding round toBits toSigned span back skip skipBack blankAt blankBefore closing maxZero roundAway roundByte value wholeNumber i32Of hexAt splitAt exponentAt floatOf f32Of trimmed ampersands zeroXAt digits alphaAt colourAt split append records encode count names lookup lowered keyAt part f32s i32s allFloats floatsIn allInts intsIn unlessLong pairOf moveOf fadOf fadeOf rangedOf weightOf flagOf clipOf resetOf shaped isFn isNamedReset plainAt paramAt peel tagAt walk parse
+unfolding round toBits toSigned span back skip skipBack blankAt blankBefore closing maxZero roundAway roundByte value wholeNumber i32Of hexAt splitAt exponentAt floatOf f32Of trimmed ampersands zeroXAt digits alphaAt colourAt split append records encode count names lookup lowered keyAt part f32s i32s allFloats floatsIn allInts intsIn unlessLong pairOf moveOf fadOf fadeOf rangedOf weightOf flagOf clipOf resetOf shaped isFn isNamedReset plainAt paramAt peel tagAt walk tAt parse
 tables = refl
 
 pub raw : Gives rawRecordsOf (
@@ -66,36 +66,36 @@ pub raw : Gives rawRecordsOf (
     ("{\\rAlt}", rec 41 1 3 3 0 0 0 0 ∷ []) ∷
     ("{{\\fnArial}}", rec 39 5 5 10 1 0 0 0 ∷ []) ∷
     [])
-unfolding round toBits toSigned span back skip skipBack blankAt blankBefore closing maxZero roundAway roundByte value wholeNumber i32Of hexAt splitAt exponentAt floatOf f32Of trimmed ampersands zeroXAt digits alphaAt colourAt split append records encode count names lookup lowered keyAt part f32s i32s allFloats floatsIn allInts intsIn unlessLong pairOf moveOf fadOf fadeOf rangedOf weightOf flagOf clipOf resetOf shaped isFn isNamedReset plainAt paramAt peel tagAt walk parse lessBraces
+unfolding round toBits toSigned span back skip skipBack blankAt blankBefore closing maxZero roundAway roundByte value wholeNumber i32Of hexAt splitAt exponentAt floatOf f32Of trimmed ampersands zeroXAt digits alphaAt colourAt split append records encode count names lookup lowered keyAt part f32s i32s allFloats floatsIn allInts intsIn unlessLong pairOf moveOf fadOf fadeOf rangedOf weightOf flagOf clipOf resetOf shaped isFn isNamedReset plainAt paramAt peel tagAt walk tAt parse lessBraces
 raw = refl
 
 pub answers : Gives answerOf (
-    ("", Read 0) ∷
-    ("\\t(\\t(\\t(\\t(\\t(\\t(\\t(\\t(\\b1", Read 9) ∷
-    ("\\t(\\t(\\t(\\t(\\t(\\t(\\t(\\t(\\t(\\b1", Read 8) ∷
-    ("\\fs999999999", Read 1) ∷
+    ("", Written 0) ∷
+    ("\\t(\\t(\\t(\\t(\\t(\\t(\\t(\\t(\\b1", Written 9) ∷
+    ("\\t(\\t(\\t(\\t(\\t(\\t(\\t(\\t(\\t(\\b1", Written 8) ∷
+    ("\\fs999999999", Written 1) ∷
     ("\\fs1000000000", Refused (NumeralTooLong 3)) ∷
     ("\\fs1e2", Refused (NumeralTooLong 3)) ∷
     ("\\pos(x,1e5)", Refused (NumeralTooLong 7)) ∷
     ("\\pos(1,2, -1e5)", Refused (NumeralTooLong 10)) ∷
-    ("\\fad(1e2,5)\\foo1e2\\clip(1e2)", Read 1) ∷
-    ("\\t(x,1e2,\\i1)", Read 2) ∷
+    ("\\fad(1e2,5)\\foo1e2\\clip(1e2)", Written 1) ∷
+    ("\\t(x,1e2,\\i1)", Written 2) ∷
     ("\\t(1,1e2,\\fs1e3)", Refused (NumeralTooLong 5)) ∷
     ("\\i1\\fade(0,0,0,0,0,0,1000000001)", Refused (FadeTooFar 3)) ∷
-    ("\\fade(0,0,0,-1000000000,0,0,1000000000)", Read 1) ∷
+    ("\\fade(0,0,0,-1000000000,0,0,1000000000)", Written 1) ∷
     [])
-unfolding round toBits toSigned span back skip skipBack blankAt blankBefore closing maxZero roundAway roundByte value wholeNumber i32Of hexAt splitAt exponentAt floatOf f32Of trimmed ampersands zeroXAt digits alphaAt colourAt split append records encode count names lookup lowered keyAt part f32s i32s allFloats floatsIn allInts intsIn unlessLong pairOf moveOf fadOf fadeOf rangedOf weightOf flagOf clipOf resetOf shaped isFn isNamedReset plainAt paramAt peel tagAt walk parse textGround readGround answer
+unfolding round toBits toSigned span back skip skipBack blankAt blankBefore closing maxZero roundAway roundByte value wholeNumber i32Of hexAt splitAt exponentAt floatOf f32Of trimmed ampersands zeroXAt digits alphaAt colourAt split append records encode count names lookup lowered keyAt part f32s i32s allFloats floatsIn allInts intsIn unlessLong pairOf moveOf fadOf fadeOf rangedOf weightOf flagOf clipOf resetOf shaped isFn isNamedReset plainAt paramAt peel tagAt walk tAt parse textGround readGround answer
 answers = refl
 
 -- 01, Grounds: "Two faults: the lower number", for each two neighbours of 1, 2, 3, 4 and 9; the second is the number of places
-abbrev answerIn : List ℕ × ℕ → Reading
+abbrev answerIn : List ℕ × ℕ → Answer
 answerIn r = answer (r .0) (wholeText (r .0)) (r .1)
 
 abbrev farFade : String
 farFade = "\\fade(0,0,0,0,0,0,1000000001)"
 
-abbrev Answers : List ((List ℕ × ℕ) × Reading) → Type 0
-Answers rows = map (λ (r : (List ℕ × ℕ) × Reading). answerIn (r .0)) rows ≡ map (λ (r : (List ℕ × ℕ) × Reading). r .1) rows
+abbrev Answers : List ((List ℕ × ℕ) × Answer) → Type 0
+Answers rows = map (λ (r : (List ℕ × ℕ) × Answer). answerIn (r .0)) rows ≡ map (λ (r : (List ℕ × ℕ) × Answer). r .1) rows
 
 pub two-faults : Answers (
     ((replicate 12289 128, 0), Refused TextTooLong) ∷
@@ -106,5 +106,5 @@ pub two-faults : Answers (
     ((bytes "\\i1" ++ bytes farFade, 0), Refused (FadeTooFar 3)) ∷
     ((bytes "\\i1\\b1", 1), Refused (NoRoom 2)) ∷
     [])
-unfolding round toBits toSigned span back skip skipBack blankAt blankBefore closing maxZero roundAway roundByte value wholeNumber i32Of hexAt splitAt exponentAt floatOf f32Of trimmed ampersands zeroXAt digits alphaAt colourAt split append records encode count names lookup lowered keyAt part f32s i32s allFloats floatsIn allInts intsIn unlessLong pairOf moveOf fadOf fadeOf rangedOf weightOf flagOf clipOf resetOf shaped isFn isNamedReset plainAt paramAt peel tagAt walk parse textGround readGround answer
+unfolding round toBits toSigned span back skip skipBack blankAt blankBefore closing maxZero roundAway roundByte value wholeNumber i32Of hexAt splitAt exponentAt floatOf f32Of trimmed ampersands zeroXAt digits alphaAt colourAt split append records encode count names lookup lowered keyAt part f32s i32s allFloats floatsIn allInts intsIn unlessLong pairOf moveOf fadOf fadeOf rangedOf weightOf flagOf clipOf resetOf shaped isFn isNamedReset plainAt paramAt peel tagAt walk tAt parse textGround readGround answer
 two-faults = refl

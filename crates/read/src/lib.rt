@@ -1,15 +1,13 @@
 // Override blocks into tables: the two reading calls.
 ghost use mathlib.Core.Path.{_≡_};
-ghost use mathlib.Core.List.{[], _∷_};
 ghost use Prim.Native.Nat.{_+_, _-_, _*_, _^_, _≤_, _<_};
 ghost use lib.ListN.{length};
 ghost use Rattle.refusal.specs.Refusal.{textGround};
 ghost use Rattle.refusal.specs.declared.Checked.the-variants.{Good};
-ghost use Rattle.tag.specs.Table.{encode, laid};
-ghost use Rattle.read.specs.Block.{paramAt, nameEnd, headAt, HeadIn, peel as peelFrom, peelTo, tagAt, tAt, parse, oneGot};
-ghost use Rattle.read.specs.Heads.{headed, tWords, Peels};
-ghost use Rattle.read.specs.Reading.{Told, readGround, wholeText, lessBraces, answer, after, Answered, outOf};
-ghost use Rattle.read.specs.Kept.{keptGot, joinedOut, aroundOut};
+ghost use Rattle.tag.specs.Table.{laid};
+ghost use Rattle.read.specs.Block.{paramAt, nameEnd, headAt, peelTo, tagAt, tAt, parse};
+ghost use Rattle.read.specs.Reading.{readGround, wholeText, lessBraces, Answered};
+ghost use Rattle.read.specs.Inner.{HeadIn, headed, tWords, Peels, keptRecords, keptGot, joinedOut, aroundOut, Told, BraceEnd};
 
 // A tag: where its name begins and ends, its parameter from p to q, and the place behind both.
 pub struct Head {
@@ -46,12 +44,6 @@ pub struct Out {
 pub struct Span {
     pub from: usize,
     pub to: usize,
-}
-
-// The answer of a reading call: the number of records written, or the refusal.
-pub enum Reading {
-    Read(usize),
-    Refused(refusal::Refusal),
 }
 
 // The parameter that starts at i, as `read_param` has it.
@@ -246,7 +238,7 @@ fn t_record(h: Heads, n: u32) -> tag::Record
 
 // What a plain tag gives, its record into the front of the table.
 fn keep(i: usize, k: plain::Kept, table: &mut [u32]) -> Out
-    ensures { λ r. ⌜ (r ≡ keptGot i k) × (now (table .exit) ≡ laid (now (table .entry)) (Rattle.read.specs.Kept.keptRecords k)) × (r .n ≤ 1) ⌝ }
+    ensures { λ r. ⌜ (r ≡ keptGot i k) × (now (table .exit) ≡ laid (now (table .entry)) (keptRecords k)) × (r .n ≤ 1) ⌝ }
 {
     match k {
         plain::Kept::No => Out {
@@ -386,20 +378,20 @@ fn parse_overrides_depth(
 }
 
 // Grounds 3, 4 and 9 for what was seen.
-fn check_read(o: Out, places: usize) -> Reading
+fn check_read(o: Out, places: usize) -> refusal::Answer
     ensures { λ r. ⌜ r ≡ readGround (o .long) (o .far) (o .n) places ⌝ }
 {
     let long = o.long;
     let far = o.far;
     match long {
-        lists::Found::At(p) => Reading::Refused(refusal::Refusal::NumeralTooLong(p)),
+        lists::Found::At(p) => refusal::Answer::Refused(refusal::Refusal::NumeralTooLong(p)),
         lists::Found::Nowhere => match far {
-            lists::Found::At(p) => Reading::Refused(refusal::Refusal::FadeTooFar(p)),
+            lists::Found::At(p) => refusal::Answer::Refused(refusal::Refusal::FadeTooFar(p)),
             lists::Found::Nowhere => {
                 if o.n <= scan::least(places, 1024) {
-                    Reading::Read(o.n)
+                    refusal::Answer::Written(o.n)
                 } else {
-                    Reading::Refused(refusal::Refusal::NoRoom(o.n))
+                    refusal::Answer::Refused(refusal::Refusal::NoRoom(o.n))
                 }
             }
         },
@@ -407,39 +399,39 @@ fn check_read(o: Out, places: usize) -> Reading
 }
 
 // Reads a part of a text with no ground 1 or 2: in one run where a first look rules out grounds 3, 4 and 9; else first into no table.
-fn read_good(text: &[u8], from: usize, to: usize, table: &mut [u32]) -> Reading
+fn read_good(text: &[u8], from: usize, to: usize, table: &mut [u32]) -> refusal::Answer
     requires { ⌜ (from ≤ to) × (to ≤ length (now text)) × (textGround (now text) ≡ Good) ⌝ }
     ensures { λ r. ⌜ Answered (now (text .entry)) (record { from = from; to = to }) (now (table .entry)) r (now (table .exit)) ⌝ }
 {
     if survey::straight(text, from, to, scan::least(table.len() / 8, 1024)) {
         let o = parse_overrides_depth(text, from, to, 8, table);
-        return Reading::Read(o.n);
+        return refusal::Answer::Written(o.n);
     }
     let seen = parse_overrides_depth(text, from, to, 8, &mut table[..0]);
     let answer = check_read(seen, table.len() / 8);
     match answer {
-        Reading::Refused(r) => Reading::Refused(r),
-        Reading::Read(n) => {
+        refusal::Answer::Refused(r) => refusal::Answer::Refused(r),
+        refusal::Answer::Written(n) => {
             let _ = parse_overrides_depth(text, from, to, 8, table);
-            Reading::Read(n)
+            refusal::Answer::Written(n)
         }
     }
 }
 
 // Reads a part of the text.
-fn read_span(text: &[u8], from: usize, to: usize, table: &mut [u32]) -> Reading
+fn read_span(text: &[u8], from: usize, to: usize, table: &mut [u32]) -> refusal::Answer
     requires { ⌜ (from ≤ to) × (to ≤ length (now text)) ⌝ }
     ensures { λ r. ⌜ Answered (now (text .entry)) (record { from = from; to = to }) (now (table .entry)) r (now (table .exit)) ⌝ }
 {
     let checked = refusal::check_text(text);
     match checked {
-        refusal::Checked::Bad(r) => Reading::Refused(r),
+        refusal::Checked::Bad(r) => refusal::Answer::Refused(r),
         refusal::Checked::Good => read_good(text, from, to, table),
     }
 }
 
 // 01, Reading: the block is the whole text; braces are ordinary bytes.
-pub fn parse_overrides(text: &[u8], table: &mut [u32]) -> Reading
+pub fn parse_overrides(text: &[u8], table: &mut [u32]) -> refusal::Answer
     ensures { λ r. ⌜ Answered (now (text .entry)) (wholeText (now (text .entry))) (now (table .entry)) r (now (table .exit)) ⌝ }
 {
     read_span(text, 0, text.len(), table)
@@ -448,7 +440,7 @@ pub fn parse_overrides(text: &[u8], table: &mut [u32]) -> Reading
 // Where the text without blanks around it ends once a closing brace is dropped.
 fn brace_end(text: &[u8], p: usize, b: usize) -> usize
     requires { ⌜ (p ≤ b) × (b ≤ length (now text)) ⌝ }
-    ensures { λ r. ⌜ Rattle.read.specs.Reading.BraceEnd (now (text .entry)) p b r ⌝ }
+    ensures { λ r. ⌜ BraceEnd (now (text .entry)) p b r ⌝ }
 {
     if p < b {
         if text[b - 1] == 125 {
@@ -459,7 +451,7 @@ fn brace_end(text: &[u8], p: usize, b: usize) -> usize
 }
 
 // 01, Braces: trims, then drops one { and one }.
-pub fn parse_raw_block(text: &[u8], table: &mut [u32]) -> Reading
+pub fn parse_raw_block(text: &[u8], table: &mut [u32]) -> refusal::Answer
     ensures { λ r. ⌜ Answered (now (text .entry)) (lessBraces (now (text .entry))) (now (table .entry)) r (now (table .exit)) ⌝ }
 {
     let a = scan::trim_start(text, 0, text.len());

@@ -22,6 +22,12 @@ pub enum Checked {
     Bad(Refusal),
 }
 
+// What a call that fills a table answers: how many records or commands it wrote, or the refusal.
+pub enum Answer {
+    Written(usize),
+    Refused(Refusal),
+}
+
 // The ground's number.
 pub fn number_of(r: Refusal) -> u32
     ensures { λ n. ⌜ (n ≡ numberOf r) × (n ≤ 9) ⌝ }

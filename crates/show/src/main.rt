@@ -26,7 +26,7 @@ fn is_raw() -> bool {
     word[2] == b'w'
 }
 
-fn read_block(raw: bool, text: &[u8], table: &mut [u32]) -> read::Reading {
+fn read_block(raw: bool, text: &[u8], table: &mut [u32]) -> refusal::Answer {
     if raw {
         return read::parse_raw_block(text, table);
     }
@@ -38,8 +38,8 @@ fn show(raw: bool, text: &[u8], table: &mut [u32], out: &mut [u8]) {
     print::line::write_text(out, text);
     let reading = read_block(raw, text, table);
     match reading {
-        read::Reading::Read(n) => tags::write_records(out, text, table, n),
-        read::Reading::Refused(r) => print::refused::write_refusal(out, r, b"records"),
+        refusal::Answer::Written(n) => tags::write_records(out, text, table, n),
+        refusal::Answer::Refused(r) => print::refused::write_refusal(out, r, b"records"),
     }
 }
 

@@ -2,23 +2,8 @@ use borrow.Author.Needs.{needs}
 use Rattle.colour.proofs.rgb_of.Statement.{statement}
 use Rattle.colour.proofs.rgb_of.Tie as tie
 
-enum-known-n : tie.Need-enum-known-n
-enum-known-n c = search needs
-
-enum-told : tie.Need-enum-told
-enum-told c = search needs
-
-enum-told-2 : tie.Need-enum-told-2
-enum-told-2 c = search needs
-
 returns : tie.Need-returns
 returns c = rw (c .before .n .given .1)
 
-returns-2 : tie.Need-returns-2
-returns-2 c = search needs
-
-returns-3 : tie.Need-returns-3
-returns-3 c = search needs
-
 pub rgb-of-spec : {M : Type 1} → statement M
-rgb-of-spec = tie.close (tie.spec enum-known-n enum-told enum-told-2 returns returns-2 returns-3)
+rgb-of-spec = tie.close (tie.spec (λ c. search needs) (λ c. search needs) (λ c. search needs) returns (λ c. search needs) (λ c. search needs))

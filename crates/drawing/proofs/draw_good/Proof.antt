@@ -1,4 +1,5 @@
-use Rattle.drawing.proofs.Answering.{short-text, straight-drawn, dry-refused, dry-full, dry-drawn}
+use Rattle.refusal.proofs.Laws.{good-short}
+use Rattle.drawing.proofs.Answering.{straight-drawn, dry-refused, dry-full, dry-drawn}
 use borrow.Author.Needs.{needs}
 use Rattle.drawing.proofs.draw_good.Statement.{statement}
 use Rattle.drawing.proofs.draw_good.Tie as tie
@@ -16,10 +17,10 @@ least-requires : tie.Need-least-requires
 least-requires c κs = search needs
 
 straight-requires : tie.Need-straight-requires
-straight-requires c κs = (short-text _ (c .before .before .before .before .pre .0), search needs)
+straight-requires c κs = (good-short _ (c .before .before .before .before .pre .0), search needs)
 
 draw-requires : tie.Need-draw-requires
-draw-requires c κs = short-text _ (c .before .before .before .before .before .before .before .pre .0)
+draw-requires c κs = good-short _ (c .before .before .before .before .before .before .before .pre .0)
 
 same-length : tie.Need-same-length
 same-length c = search needs
@@ -34,7 +35,7 @@ slice-aggregate-draw : tie.Need-slice-aggregate-draw
 slice-aggregate-draw c = search needs
 
 draw-requires-2 : tie.Need-draw-requires-2
-draw-requires-2 c κs = short-text _ (c .before .before .before .before .before .before .before .pre .0)
+draw-requires-2 c κs = good-short _ (c .before .before .before .before .before .before .before .pre .0)
 
 enum-known-ground : tie.Need-enum-known-ground
 enum-known-ground c = search needs
@@ -49,7 +50,7 @@ returns-2 : tie.Need-returns-2
 returns-2 c = dry-full _ _ _ (c .before .before .before .before .before .before .before .before .before .before .before .before .before .before .pre .0) (c .before .before .before .before .before .before .before .before .before .before .before .before .before .before .pre .1) (c .before .before .before .before .before .before .before .before .before .before .before .scale-of .ensures) (c .before .before .before .before .before .before .before .before .before .before .least .ensures) (c .before .before .before .before .before .before .draw2 .ensures) (c .before .before .enum-told .given .1) (c .if2 .taken)
 
 draw-requires-3 : tie.Need-draw-requires-3
-draw-requires-3 c κs = short-text _ (c .before .before .before .before .before .before .before .before .before .before .before .before .before .before .before .pre .0)
+draw-requires-3 c κs = good-short _ (c .before .before .before .before .before .before .before .before .before .before .before .before .before .before .before .pre .0)
 
 same-length-3 : tie.Need-same-length-3
 same-length-3 c = search needs

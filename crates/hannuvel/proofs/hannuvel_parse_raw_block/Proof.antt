@@ -2,20 +2,10 @@ use borrow.Author.Needs.{needs}
 use Rattle.hannuvel.proofs.hannuvel_parse_raw_block.Statement.{statement}
 use Rattle.hannuvel.proofs.hannuvel_parse_raw_block.Tie as tie
 
-parse-raw-block-requires : tie.Need-parse-raw-block-requires
-parse-raw-block-requires c κs = search needs
-
-packed-reading-requires : tie.Need-packed-reading-requires
-packed-reading-requires c κs = search needs
-
-same-length : tie.Need-same-length
-same-length c = search needs
-
 returns : tie.Need-returns
 returns c =
     let a = c .before .before .before .parse-raw-block .ensures in
-    record { answered = rw (← a .reading) (c .packed-reading .ensures); table = a .table }
+    record { answered = rw (← a .reading) (c .packed-answer .ensures); table = a .table }
 
 pub hannuvel-parse-raw-block-spec : {M : Type 1} → statement M
-hannuvel-parse-raw-block-spec =
-    tie.close (tie.spec parse-raw-block-requires packed-reading-requires same-length returns)
+hannuvel-parse-raw-block-spec = tie.close (tie.spec (λ c κs. search needs) (λ c κs. search needs) (λ c. search needs) returns)

@@ -5,18 +5,6 @@ use borrow.Author.Needs.{needs}
 use Rattle.leaves.proofs.hannuvel_leaf_cut.Statement.{statement}
 use Rattle.leaves.proofs.hannuvel_leaf_cut.Tie as tie
 
-in-reach-requires : tie.Need-in-reach-requires
-in-reach-requires c κs = search needs
-
-f32-of-word-requires : tie.Need-f32-of-word-requires
-f32-of-word-requires c κs = search needs
-
-cut-requires : tie.Need-cut-requires
-cut-requires c κs = search needs
-
-to-word-requires : tie.Need-to-word-requires
-to-word-requires c κs = search needs
-
 returns : tie.Need-returns
 returns c =
     let z = c .before .cut in
@@ -27,11 +15,5 @@ returns-2 c = rw (← c .before .in-reach .ensures, c .if1 .left)
 
 pub hannuvel-leaf-cut-spec : {M : Type 1} → statement M
 hannuvel-leaf-cut-spec =
-    tie.close
-    (tie.spec
-    in-reach-requires
-    f32-of-word-requires
-    cut-requires
-    to-word-requires
-    returns
-    returns-2)
+    tie.close (tie.spec
+    (λ c κs. search needs) (λ c κs. search needs) (λ c κs. search needs) (λ c κs. search needs) returns returns-2)

@@ -7,15 +7,6 @@ use borrow.Author.Needs.{needs}
 use Rattle.plain.proofs.is_fn.Statement.{statement}
 use Rattle.plain.proofs.is_fn.Tie as tie
 
-sub-if1 : tie.Need-sub-if1
-sub-if1 c = search needs
-
-add-key-of : tie.Need-add-key-of
-add-key-of c = search needs
-
-key-of-requires : tie.Need-key-of-requires
-key-of-requires c κs = search needs
-
 returns : tie.Need-returns
 unfolding isFn
 returns c =
@@ -28,4 +19,4 @@ unfolding isFn
 returns-2 c = rw (lt-leb _ _ (c .if1 .left))
 
 pub is-fn-spec : {M : Type 1} → statement M
-is-fn-spec = tie.close (tie.spec sub-if1 add-key-of key-of-requires returns returns-2)
+is-fn-spec = tie.close (tie.spec (λ c. search needs) (λ c. search needs) (λ c κs. search needs) returns returns-2)

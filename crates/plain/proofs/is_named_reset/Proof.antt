@@ -7,15 +7,6 @@ use borrow.Author.Needs.{needs}
 use Rattle.plain.proofs.is_named_reset.Statement.{statement}
 use Rattle.plain.proofs.is_named_reset.Tie as tie
 
-sub-if1 : tie.Need-sub-if1
-sub-if1 c = search needs
-
-add-key-of : tie.Need-add-key-of
-add-key-of c = search needs
-
-key-of-requires : tie.Need-key-of-requires
-key-of-requires c κs = search needs
-
 returns : tie.Need-returns
 unfolding isNamedReset
 returns c =
@@ -35,5 +26,4 @@ unfolding isNamedReset
 returns-3 c = rw (lt-leb _ _ (c .if1 .left))
 
 pub is-named-reset-spec : {M : Type 1} → statement M
-is-named-reset-spec =
-    tie.close (tie.spec sub-if1 add-key-of key-of-requires returns returns-2 returns-3)
+is-named-reset-spec = tie.close (tie.spec (λ c. search needs) (λ c. search needs) (λ c κs. search needs) returns returns-2 returns-3)

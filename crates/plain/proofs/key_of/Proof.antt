@@ -21,25 +21,10 @@ loop-holds c = (search needs, search needs, rw (sub-self (c .before .args .from)
 mul-a : tie.Need-mul-a Inv-loop μ-loop
 mul-a c = omega (arith, five _ _ (c .before .loop .inv .2) (omega arith))
 
-shared-slice-read-lower : tie.Need-shared-slice-read-lower Inv-loop μ-loop
-shared-slice-read-lower c = search needs
-
-lower-requires : tie.Need-lower-requires Inv-loop μ-loop
-lower-requires c κs = search needs
-
-cast-a : tie.Need-cast-a Inv-loop μ-loop
-cast-a c = search needs
-
 add-a : tie.Need-add-a Inv-loop μ-loop
 add-a c =
     let l = c .before .before .before in
     omega (arith, five _ _ (l .loop .inv .2) (omega arith))
-
-add-i : tie.Need-add-i Inv-loop μ-loop
-add-i c = search needs
-
-loop-less : tie.Need-loop-less Inv-loop μ-loop
-loop-less c = search needs
 
 loop-again : tie.Need-loop-again Inv-loop μ-loop
 loop-again c =
@@ -53,17 +38,6 @@ returns c = sym (c .before .loop .inv .3 ∙ key-end _ _ _ _ (search needs))
 
 pub key-of-spec : {M : Type 1} → statement M
 key-of-spec =
-    tie.close
-    (tie.spec
-    Inv-loop
-    μ-loop
-    loop-holds
-    mul-a
-    shared-slice-read-lower
-    lower-requires
-    cast-a
-    add-a
-    add-i
-    loop-less
-    loop-again
-    returns)
+    tie.close (tie.spec
+    Inv-loop μ-loop loop-holds mul-a (λ c. search needs) (λ c κs. search needs) (λ c. search needs) add-a (λ c. search needs) (λ c. search needs)
+    loop-again returns)

@@ -117,63 +117,25 @@ parse-overrides-depth-Inv-loop text from to depth table₀ i₀ out₀ table i o
 abbrev parse-overrides-depth-μ-loop : parse-overrides-depth-lts.MeasureT-loop
 parse-overrides-depth-μ-loop text from to depth table₀ i₀ out₀ table i out = to - i
 
-parse-overrides-depth-loop-holds : (t : ℕ) → parse-overrides-depth-lts.Need-loop-holds (calls-block t)
-    (parse-overrides-depth-at t)
-    parse-overrides-depth.Post
-    parse-overrides-depth-Inv-loop
-    parse-overrides-depth-μ-loop
+parse-overrides-depth-loop-holds : (t : ℕ) → parse-overrides-depth-lts.Need-loop-holds (calls-block t) (parse-overrides-depth-at t) parse-overrides-depth.Post parse-overrides-depth-Inv-loop parse-overrides-depth-μ-loop
 parse-overrides-depth-loop-holds t c = (search needs, search needs, search needs, turning-start _ _)
 
-parse-overrides-depth-shared-slice-read-if1 :
-    (t : ℕ) → parse-overrides-depth-lts.Need-shared-slice-read-if1 (
-      head-at-reads.Asked,
-      head-at-reads.Learnt,
-      least-reads.Asked,
-      least-reads.Learnt,
-      parse-one-below t,
-      parse-one.Post,
-      joined-reads.Asked,
-      joined-reads.Learnt,
-    )
-    (parse-overrides-depth-at t)
-    parse-overrides-depth.Post
-    parse-overrides-depth-Inv-loop
-    parse-overrides-depth-μ-loop
+parse-overrides-depth-shared-slice-read-if1 : (t : ℕ) → parse-overrides-depth-lts.Need-shared-slice-read-if1 (calls-block t) (parse-overrides-depth-at t) parse-overrides-depth.Post parse-overrides-depth-Inv-loop parse-overrides-depth-μ-loop
 parse-overrides-depth-shared-slice-read-if1 t c = search needs
 
-parse-overrides-depth-head-at-requires : (t : ℕ) → parse-overrides-depth-lts.Need-head-at-requires (calls-block t)
-    (parse-overrides-depth-at t)
-    parse-overrides-depth.Post
-    parse-overrides-depth-Inv-loop
-    parse-overrides-depth-μ-loop
+parse-overrides-depth-head-at-requires : (t : ℕ) → parse-overrides-depth-lts.Need-head-at-requires (calls-block t) (parse-overrides-depth-at t) parse-overrides-depth.Post parse-overrides-depth-Inv-loop parse-overrides-depth-μ-loop
 parse-overrides-depth-head-at-requires t c κs = search needs
 
-parse-overrides-depth-add-if2 : (t : ℕ) → parse-overrides-depth-lts.Need-add-if2 (calls-block t)
-    (parse-overrides-depth-at t)
-    parse-overrides-depth.Post
-    parse-overrides-depth-Inv-loop
-    parse-overrides-depth-μ-loop
+parse-overrides-depth-add-if2 : (t : ℕ) → parse-overrides-depth-lts.Need-add-if2 (calls-block t) (parse-overrides-depth-at t) parse-overrides-depth.Post parse-overrides-depth-Inv-loop parse-overrides-depth-μ-loop
 parse-overrides-depth-add-if2 t c = search needs
 
-parse-overrides-depth-add-i : (t : ℕ) → parse-overrides-depth-lts.Need-add-i (calls-block t)
-    (parse-overrides-depth-at t)
-    parse-overrides-depth.Post
-    parse-overrides-depth-Inv-loop
-    parse-overrides-depth-μ-loop
+parse-overrides-depth-add-i : (t : ℕ) → parse-overrides-depth-lts.Need-add-i (calls-block t) (parse-overrides-depth-at t) parse-overrides-depth.Post parse-overrides-depth-Inv-loop parse-overrides-depth-μ-loop
 parse-overrides-depth-add-i t c = search needs
 
-parse-overrides-depth-loop-less : (t : ℕ) → parse-overrides-depth-lts.Need-loop-less (calls-block t)
-    (parse-overrides-depth-at t)
-    parse-overrides-depth.Post
-    parse-overrides-depth-Inv-loop
-    parse-overrides-depth-μ-loop
+parse-overrides-depth-loop-less : (t : ℕ) → parse-overrides-depth-lts.Need-loop-less (calls-block t) (parse-overrides-depth-at t) parse-overrides-depth.Post parse-overrides-depth-Inv-loop parse-overrides-depth-μ-loop
 parse-overrides-depth-loop-less t c = search needs
 
-parse-overrides-depth-loop-again : (t : ℕ) → parse-overrides-depth-lts.Need-loop-again (calls-block t)
-    (parse-overrides-depth-at t)
-    parse-overrides-depth.Post
-    parse-overrides-depth-Inv-loop
-    parse-overrides-depth-μ-loop
+parse-overrides-depth-loop-again : (t : ℕ) → parse-overrides-depth-lts.Need-loop-again (calls-block t) (parse-overrides-depth-at t) parse-overrides-depth.Post parse-overrides-depth-Inv-loop parse-overrides-depth-μ-loop
 parse-overrides-depth-loop-again t c =
     let l = c .before .before .before .before .before .before .loop in
     let a = c .before .before .before .before .before .before .before .before .before .args in
@@ -181,106 +143,36 @@ parse-overrides-depth-loop-again t c =
     let k = parse-bare (a .depth) (a .text .now) (l .i) (a .to) (h .result) (c .before .before .before .before .before .loop-test .taken) (c .before .before .before .if1 .taken) (h .ensures .0 .is) (c .if2 .taken) in
     (search needs, search needs, search needs, rw k at (l .inv .3))
 
-parse-overrides-depth-mul-least : (t : ℕ) → parse-overrides-depth-lts.Need-mul-least (calls-block t)
-    (parse-overrides-depth-at t)
-    parse-overrides-depth.Post
-    parse-overrides-depth-Inv-loop
-    parse-overrides-depth-μ-loop
+parse-overrides-depth-mul-least : (t : ℕ) → parse-overrides-depth-lts.Need-mul-least (calls-block t) (parse-overrides-depth-at t) parse-overrides-depth.Post parse-overrides-depth-Inv-loop parse-overrides-depth-μ-loop
 parse-overrides-depth-mul-least t c = search needs
 
-parse-overrides-depth-least-requires : (t : ℕ) → parse-overrides-depth-lts.Need-least-requires (calls-block t)
-    (parse-overrides-depth-at t)
-    parse-overrides-depth.Post
-    parse-overrides-depth-Inv-loop
-    parse-overrides-depth-μ-loop
+parse-overrides-depth-least-requires : (t : ℕ) → parse-overrides-depth-lts.Need-least-requires (calls-block t) (parse-overrides-depth-at t) parse-overrides-depth.Post parse-overrides-depth-Inv-loop parse-overrides-depth-μ-loop
 parse-overrides-depth-least-requires t c κs = search needs
 
-parse-overrides-depth-mul-parse-one : (t : ℕ) → parse-overrides-depth-lts.Need-mul-parse-one (calls-block t)
-    (parse-overrides-depth-at t)
-    parse-overrides-depth.Post
-    parse-overrides-depth-Inv-loop
-    parse-overrides-depth-μ-loop
+parse-overrides-depth-mul-parse-one : (t : ℕ) → parse-overrides-depth-lts.Need-mul-parse-one (calls-block t) (parse-overrides-depth-at t) parse-overrides-depth.Post parse-overrides-depth-Inv-loop parse-overrides-depth-μ-loop
 parse-overrides-depth-mul-parse-one t c = search needs
 
-parse-overrides-depth-sub-parse-one : (t : ℕ) → parse-overrides-depth-lts.Need-sub-parse-one (calls-block t)
-    (parse-overrides-depth-at t)
-    parse-overrides-depth.Post
-    parse-overrides-depth-Inv-loop
-    parse-overrides-depth-μ-loop
+parse-overrides-depth-sub-parse-one : (t : ℕ) → parse-overrides-depth-lts.Need-sub-parse-one (calls-block t) (parse-overrides-depth-at t) parse-overrides-depth.Post parse-overrides-depth-Inv-loop parse-overrides-depth-μ-loop
 parse-overrides-depth-sub-parse-one t c = search needs
 
-parse-overrides-depth-part-parse-one-start :
-    (t : ℕ) → parse-overrides-depth-lts.Need-part-parse-one-start (
-      head-at-reads.Asked,
-      head-at-reads.Learnt,
-      least-reads.Asked,
-      least-reads.Learnt,
-      parse-one-below t,
-      parse-one.Post,
-      joined-reads.Asked,
-      joined-reads.Learnt,
-    )
-    (parse-overrides-depth-at t)
-    parse-overrides-depth.Post
-    parse-overrides-depth-Inv-loop
-    parse-overrides-depth-μ-loop
+parse-overrides-depth-part-parse-one-start : (t : ℕ) → parse-overrides-depth-lts.Need-part-parse-one-start (calls-block t) (parse-overrides-depth-at t) parse-overrides-depth.Post parse-overrides-depth-Inv-loop parse-overrides-depth-μ-loop
 parse-overrides-depth-part-parse-one-start t c = search needs
 
-parse-overrides-depth-part-parse-one-end :
-    (t : ℕ) → parse-overrides-depth-lts.Need-part-parse-one-end (
-      head-at-reads.Asked,
-      head-at-reads.Learnt,
-      least-reads.Asked,
-      least-reads.Learnt,
-      parse-one-below t,
-      parse-one.Post,
-      joined-reads.Asked,
-      joined-reads.Learnt,
-    )
-    (parse-overrides-depth-at t)
-    parse-overrides-depth.Post
-    parse-overrides-depth-Inv-loop
-    parse-overrides-depth-μ-loop
+parse-overrides-depth-part-parse-one-end : (t : ℕ) → parse-overrides-depth-lts.Need-part-parse-one-end (calls-block t) (parse-overrides-depth-at t) parse-overrides-depth.Post parse-overrides-depth-Inv-loop parse-overrides-depth-μ-loop
 parse-overrides-depth-part-parse-one-end t c = search needs
 
-parse-overrides-depth-parse-one-requires :
-    (t : ℕ) → parse-overrides-depth-lts.Need-parse-one-requires (
-      head-at-reads.Asked,
-      head-at-reads.Learnt,
-      least-reads.Asked,
-      least-reads.Learnt,
-      parse-one-below t,
-      parse-one.Post,
-      joined-reads.Asked,
-      joined-reads.Learnt,
-    )
-    (parse-overrides-depth-at t)
-    parse-overrides-depth.Post
-    parse-overrides-depth-Inv-loop
-    parse-overrides-depth-μ-loop
+parse-overrides-depth-parse-one-requires : (t : ℕ) → parse-overrides-depth-lts.Need-parse-one-requires (calls-block t) (parse-overrides-depth-at t) parse-overrides-depth.Post parse-overrides-depth-Inv-loop parse-overrides-depth-μ-loop
 parse-overrides-depth-parse-one-requires t c κs = search needs
 
-parse-overrides-depth-joined-requires : (t : ℕ) → parse-overrides-depth-lts.Need-joined-requires (calls-block t)
-    (parse-overrides-depth-at t)
-    parse-overrides-depth.Post
-    parse-overrides-depth-Inv-loop
-    parse-overrides-depth-μ-loop
+parse-overrides-depth-joined-requires : (t : ℕ) → parse-overrides-depth-lts.Need-joined-requires (calls-block t) (parse-overrides-depth-at t) parse-overrides-depth.Post parse-overrides-depth-Inv-loop parse-overrides-depth-μ-loop
 parse-overrides-depth-joined-requires t c κs = search needs
 
-parse-overrides-depth-loop-less-2 : (t : ℕ) → parse-overrides-depth-lts.Need-loop-less-2 (calls-block t)
-    (parse-overrides-depth-at t)
-    parse-overrides-depth.Post
-    parse-overrides-depth-Inv-loop
-    parse-overrides-depth-μ-loop
+parse-overrides-depth-loop-less-2 : (t : ℕ) → parse-overrides-depth-lts.Need-loop-less-2 (calls-block t) (parse-overrides-depth-at t) parse-overrides-depth.Post parse-overrides-depth-Inv-loop parse-overrides-depth-μ-loop
 parse-overrides-depth-loop-less-2 t c =
     let h = c .before .before .before .before .before .before .before .before .before .head-at .ensures in
     less-left _ _ _ (next-past _ _ _ _ _ (h .1) (rw (h .0 .end-is) (h .0 .low)) (h .0 .order) (h .0 .next-low)) (h .0 .high)
 
-parse-overrides-depth-loop-again-2 : (t : ℕ) → parse-overrides-depth-lts.Need-loop-again-2 (calls-block t)
-    (parse-overrides-depth-at t)
-    parse-overrides-depth.Post
-    parse-overrides-depth-Inv-loop
-    parse-overrides-depth-μ-loop
+parse-overrides-depth-loop-again-2 : (t : ℕ) → parse-overrides-depth-lts.Need-loop-again-2 (calls-block t) (parse-overrides-depth-at t) parse-overrides-depth.Post parse-overrides-depth-Inv-loop parse-overrides-depth-μ-loop
 parse-overrides-depth-loop-again-2 t c =
     let l = c .before .before .before .before .before .before .before .before .before .before .before .before .before .loop in
     let a = c .before .before .before .before .before .before .before .before .before .before .before .before .before .before .before .before .args in
@@ -289,43 +181,23 @@ parse-overrides-depth-loop-again-2 t c =
     let k = parse-tag (a .depth) (a .text .now) (l .i) (a .to) (h .result) (c .before .before .before .before .before .before .before .before .before .before .before .before .loop-test .taken) (c .before .before .before .before .before .before .before .before .before .before .if1 .taken) (h .ensures .0 .is) (c .before .before .before .before .before .before .before .if2 .left) in
     (search needs, search needs, rw (ap (λ (x : Out). x .n) (c .joined .ensures)) (count-step _ _ _ _ _ _ _ _ (l .inv .0) (l .inv .2) (o .ensures .few) (h .ensures .1) (rw (h .ensures .0 .end-is) (h .ensures .0 .low)) (h .ensures .0 .order) (h .ensures .0 .next-low)), turning-turn (rw k at (l .inv .3)) (c .before .before .before .before .before .least .ensures) (o .ensures) (c .joined .ensures))
 
-parse-overrides-depth-add-i-2 : (t : ℕ) → parse-overrides-depth-lts.Need-add-i-2 (calls-block t)
-    (parse-overrides-depth-at t)
-    parse-overrides-depth.Post
-    parse-overrides-depth-Inv-loop
-    parse-overrides-depth-μ-loop
+parse-overrides-depth-add-i-2 : (t : ℕ) → parse-overrides-depth-lts.Need-add-i-2 (calls-block t) (parse-overrides-depth-at t) parse-overrides-depth.Post parse-overrides-depth-Inv-loop parse-overrides-depth-μ-loop
 parse-overrides-depth-add-i-2 t c = search needs
 
-parse-overrides-depth-loop-less-3 : (t : ℕ) → parse-overrides-depth-lts.Need-loop-less-3 (calls-block t)
-    (parse-overrides-depth-at t)
-    parse-overrides-depth.Post
-    parse-overrides-depth-Inv-loop
-    parse-overrides-depth-μ-loop
+parse-overrides-depth-loop-less-3 : (t : ℕ) → parse-overrides-depth-lts.Need-loop-less-3 (calls-block t) (parse-overrides-depth-at t) parse-overrides-depth.Post parse-overrides-depth-Inv-loop parse-overrides-depth-μ-loop
 parse-overrides-depth-loop-less-3 t c = search needs
 
-parse-overrides-depth-loop-again-3 : (t : ℕ) → parse-overrides-depth-lts.Need-loop-again-3 (calls-block t)
-    (parse-overrides-depth-at t)
-    parse-overrides-depth.Post
-    parse-overrides-depth-Inv-loop
-    parse-overrides-depth-μ-loop
+parse-overrides-depth-loop-again-3 : (t : ℕ) → parse-overrides-depth-lts.Need-loop-again-3 (calls-block t) (parse-overrides-depth-at t) parse-overrides-depth.Post parse-overrides-depth-Inv-loop parse-overrides-depth-μ-loop
 parse-overrides-depth-loop-again-3 t c =
     let l = c .before .before .before .loop in
     let a = c .before .before .before .before .before .before .args in
     let k = parse-skip (a .depth) (a .text .now) (l .i) (a .to) (c .before .before .loop-test .taken) (c .if1 .left) in
     (search needs, search needs, search needs, rw k at (l .inv .3))
 
-parse-overrides-depth-same-length : (t : ℕ) → parse-overrides-depth-lts.Need-same-length (calls-block t)
-    (parse-overrides-depth-at t)
-    parse-overrides-depth.Post
-    parse-overrides-depth-Inv-loop
-    parse-overrides-depth-μ-loop
+parse-overrides-depth-same-length : (t : ℕ) → parse-overrides-depth-lts.Need-same-length (calls-block t) (parse-overrides-depth-at t) parse-overrides-depth.Post parse-overrides-depth-Inv-loop parse-overrides-depth-μ-loop
 parse-overrides-depth-same-length t c = search needs
 
-parse-overrides-depth-returns : (t : ℕ) → parse-overrides-depth-lts.Need-returns (calls-block t)
-    (parse-overrides-depth-at t)
-    parse-overrides-depth.Post
-    parse-overrides-depth-Inv-loop
-    parse-overrides-depth-μ-loop
+parse-overrides-depth-returns : (t : ℕ) → parse-overrides-depth-lts.Need-returns (calls-block t) (parse-overrides-depth-at t) parse-overrides-depth.Post parse-overrides-depth-Inv-loop parse-overrides-depth-μ-loop
 parse-overrides-depth-returns t c =
     let l = c .before .loop in
     let a = c .before .before .before .before .args in
@@ -351,21 +223,7 @@ parse-t-mul-parse-overrides-depth t c = search needs
 parse-t-sub-parse-overrides-depth-2 : (t : ℕ) → parse-t-lts.Need-sub-parse-overrides-depth-2 (calls-t t) (parse-t-at t) parse-t.Post
 parse-t-sub-parse-overrides-depth-2 t c = search needs
 
-parse-t-part-parse-overrides-depth-start :
-    (t : ℕ) → parse-t-lts.Need-part-parse-overrides-depth-start (
-      peel-reads.Asked,
-      peel-reads.Learnt,
-      least-reads.Asked,
-      least-reads.Learnt,
-      parse-overrides-depth-below t,
-      parse-overrides-depth.Post,
-      t-record-reads.Asked,
-      t-record-reads.Learnt,
-      put-reads.Asked,
-      put-reads.Learnt,
-      around-reads.Asked,
-      around-reads.Learnt,
-    ) (parse-t-at t) parse-t.Post
+parse-t-part-parse-overrides-depth-start : (t : ℕ) → parse-t-lts.Need-part-parse-overrides-depth-start (calls-t t) (parse-t-at t) parse-t.Post
 parse-t-part-parse-overrides-depth-start t c = search needs
 
 parse-t-part-parse-overrides-depth-end : (t : ℕ) → parse-t-lts.Need-part-parse-overrides-depth-end (calls-t t) (parse-t-at t) parse-t.Post
@@ -396,16 +254,7 @@ parse-t-returns-2 t c =
 
 pub +parse-one+parse-overrides-depth+parse-t-spec : {M : Type 1} → statement M
 +parse-one+parse-overrides-depth+parse-t-spec =
-    close μ-parse-one μ-parse-overrides-depth μ-parse-t (λ t. parse-one-lts.spec (
-      key-at-reads.Asked,
-      key-at-reads.Learnt,
-      parse-t-below t,
-      parse-t.Post,
-      plain-at-reads.Asked,
-      plain-at-reads.Learnt,
-      keep-reads.Asked,
-      keep-reads.Learnt,
-    )
+    close μ-parse-one μ-parse-overrides-depth μ-parse-t (λ t. parse-one-lts.spec (calls-one t)
     (parse-one-at t)
     parse-one.Post
     (parse-one-key-at-requires t)
@@ -416,20 +265,7 @@ pub +parse-one+parse-overrides-depth+parse-t-spec : {M : Type 1} → statement M
     (parse-one-keep-requires t)
     (parse-one-same-length-2 t)
     (parse-one-returns-2 t))
-    (λ t. parse-overrides-depth-lts.spec (
-      head-at-reads.Asked,
-      head-at-reads.Learnt,
-      least-reads.Asked,
-      least-reads.Learnt,
-      parse-one-below t,
-      parse-one.Post,
-      joined-reads.Asked,
-      joined-reads.Learnt,
-    )
-    (parse-overrides-depth-at t)
-    parse-overrides-depth.Post
-    parse-overrides-depth-Inv-loop
-    parse-overrides-depth-μ-loop
+    (λ t. parse-overrides-depth-lts.spec (calls-block t) (parse-overrides-depth-at t) parse-overrides-depth.Post parse-overrides-depth-Inv-loop parse-overrides-depth-μ-loop
     (parse-overrides-depth-loop-holds t)
     (parse-overrides-depth-shared-slice-read-if1 t)
     (parse-overrides-depth-head-at-requires t)
@@ -452,20 +288,7 @@ pub +parse-one+parse-overrides-depth+parse-t-spec : {M : Type 1} → statement M
     (parse-overrides-depth-loop-again-3 t)
     (parse-overrides-depth-same-length t)
     (parse-overrides-depth-returns t))
-    λ t. parse-t-lts.spec (
-      peel-reads.Asked,
-      peel-reads.Learnt,
-      least-reads.Asked,
-      least-reads.Learnt,
-      parse-overrides-depth-below t,
-      parse-overrides-depth.Post,
-      t-record-reads.Asked,
-      t-record-reads.Learnt,
-      put-reads.Asked,
-      put-reads.Learnt,
-      around-reads.Asked,
-      around-reads.Learnt,
-    )
+    λ t. parse-t-lts.spec (calls-t t)
     (parse-t-at t)
     parse-t.Post
     (parse-t-returns t)

@@ -5,21 +5,6 @@ use borrow.Author.Needs.{needs}
 use Rattle.read.proofs.head_at.Statement.{statement}
 use Rattle.read.proofs.head_at.Tie as tie
 
-add-past : tie.Need-add-past
-add-past c = search needs
-
-past-requires : tie.Need-past-requires
-past-requires c κs = search needs
-
-span-requires : tie.Need-span-requires
-span-requires c κs = search needs
-
-add-param-at : tie.Need-add-param-at
-add-param-at c = search needs
-
-param-at-requires : tie.Need-param-at-requires
-param-at-requires c κs = search needs
-
 returns : tie.Need-returns
 returns c =
     let p = c .before .before .past in
@@ -30,5 +15,5 @@ returns c =
 
 pub head-at-spec : {M : Type 1} → statement M
 head-at-spec =
-    tie.close
-    (tie.spec add-past past-requires span-requires add-param-at param-at-requires returns)
+    tie.close (tie.spec
+    (λ c. search needs) (λ c κs. search needs) (λ c κs. search needs) (λ c. search needs) (λ c κs. search needs) returns)

@@ -1,5 +1,5 @@
 use Rattle.read.proofs.Peeling.{Peeling, headed-count, from, peeling-start, peeling-no, peeling-long, peeling-word, peeling-end}
-use Rattle.read.specs.Heads.{noHeads}
+use Rattle.read.specs.Inner.{noHeads}
 use Rattle.read.specs.Block.{peelTo}
 use borrow.Author.Tests.{eq-eqb, ne-eqb, lt-ltb, le-ltb}
 use borrow.Author.Needs.{needs}

@@ -1,6 +1,7 @@
 use mathlib.Core.Path.{sym, _∙_}
 use native.Mathlib.Omega.{arith}
-use Rattle.read.proofs.Answer.{good-short, straight, refused, done}
+use Rattle.refusal.proofs.Laws.{good-short}
+use Rattle.read.proofs.Answer.{straight, refused, done}
 use Rattle.read.proofs.Places.{straight-read}
 use borrow.Author.Needs.{needs}
 use Rattle.read.proofs.read_good.Statement.{statement}

@@ -1,4 +1,4 @@
-use Rattle.read.specs.Heads.{tWords}
+use Rattle.read.specs.Inner.{tWords}
 use borrow.Author.Tests.{eq-eqb, ne-eqb}
 use borrow.Author.Needs.{needs}
 use Rattle.read.proofs.t_record.Statement.{statement}

@@ -1,4 +1,4 @@
-use Rattle.read.specs.Heads.{headed}
+use Rattle.read.specs.Inner.{headed}
 use borrow.Author.Tests.{eq-eqb, ne-eqb}
 use borrow.Author.Needs.{needs}
 use Rattle.read.proofs.with_head.Statement.{statement}
