@@ -95,9 +95,9 @@ decoders =
     (λ r. T (timesOf (r .w1) (r .w2) (r .w3)) (f (r .w4)) none) ∷
     []
 
--- the tag of a record in range; outside the kinds there is none, and Fad 0 0 stands for it
+-- the tag of a record in range; outside the kinds there is none, and a beat of no length, which does nothing, stands for it
 unfoldable pub decodeOne : Record → AnimatedTag
-decodeOne r = getD decoders (r .kind - 1) (λ r. Fad 0 0) r
+decodeOne r = getD decoders (r .kind - 1) (λ r. Karaoke Fill 0) r
 
 -- ---- a table
 

@@ -1,0 +1,75 @@
+-- Worked examples, by computation: 01's sheet and its plausible slips, on tags.
+use mathlib.Core.Path.{_≡_, refl}
+use mathlib.Core.Bool.{false, true}
+use Prim.Native.Nat.{ℕ}
+use lib.IntN.{ℤ, pos, negsuc}
+use lib.Ieee.{Float, binary32, ofBits, toBits, ofInt}
+use Rattle.float.specs.Float.{zero, one}
+use Rattle.tag.specs.Tag.{times, absent, Tags, none, and, Fad, Fade, Fs, T, Alpha1, Color1, Pbo, Be, R, plain}
+use Rattle.state.specs.declared.OptF32.{OptF32}
+use Rattle.state.specs.declared.OptU8.{OptU8}
+use Rattle.state.specs.declared.RenderState.{RenderState}
+use Rattle.state.specs.Mix.{f32Or, u8Or}
+use Rattle.state.specs.Apply.{applyOwn, applyTags, evaluateAt}
+
+abbrev whole : ℕ → Float
+whole n = ofInt binary32 (pos n)
+
+-- the size at t, as bits
+abbrev sizeAt : ℕ → Tags → ℕ
+sizeAt t l = toBits binary32 (f32Or (evaluateAt (pos t) (pos 2000) l .sizes .«font_size») zero)
+
+abbrev opacityAt : ℕ → Tags → ℕ
+opacityAt t l = toBits binary32 (evaluateAt (pos t) (pos 1000) l .always .«alpha_mul»)
+
+abbrev growing : ℤ → ℤ → Float → Tags
+growing a b accel = and (Fs (whole 20)) (and (T (times a b) accel (and (Fs (whole 40)) none)) none)
+
+-- `\fs20\t(0,1000,\fs40)`: size 20 at 0, 30 at 500, 40 at 1000
+at-0 : sizeAt 0 (growing (pos 0) (pos 1000) one) ≡ toBits binary32 (whole 20)
+unfolding evaluateAt applyTags applyOwn toBits ofInt
+at-0 = refl
+
+at-500 : sizeAt 500 (growing (pos 0) (pos 1000) one) ≡ toBits binary32 (whole 30)
+unfolding evaluateAt applyTags applyOwn toBits ofInt
+at-500 = refl
+
+-- with `0,1000,2,` size 25 at 500; with `0,1000,0.5,` size 30 at 250
+squared : sizeAt 500 (growing (pos 0) (pos 1000) (whole 2)) ≡ toBits binary32 (whole 25)
+unfolding evaluateAt applyTags applyOwn toBits ofInt
+squared = refl
+
+rooted : sizeAt 250 (growing (pos 0) (pos 1000) (ofBits binary32 0x3F000000)) ≡ toBits binary32 (whole 30)
+unfolding evaluateAt applyTags applyOwn toBits ofInt ofBits
+rooted = refl
+
+-- `\fs20\t(500,500,\fs40)`: 20 at 499, 40 at 500
+before-jump : sizeAt 499 (growing (pos 500) (pos 500) one) ≡ toBits binary32 (whole 20)
+unfolding evaluateAt applyTags applyOwn toBits ofInt
+before-jump = refl
+
+at-jump : sizeAt 500 (growing (pos 500) (pos 500) one) ≡ toBits binary32 (whole 40)
+unfolding evaluateAt applyTags applyOwn toBits ofInt
+at-jump = refl
+
+-- `\fad(200,300)`, duration 1000: 0 at 0, 0.5 at 100, 1 at 700, 0.5 at 850, 0 at 1000
+fad-100 : opacityAt 100 (and (Fad 200 300) none) ≡ 0x3F000000
+unfolding evaluateAt applyTags applyOwn toBits
+fad-100 = refl
+
+fad-700 : opacityAt 700 (and (Fad 200 300) none) ≡ 0x3F800000
+unfolding evaluateAt applyTags applyOwn toBits
+fad-700 = refl
+
+fad-850 : opacityAt 850 (and (Fad 200 300) none) ≡ 0x3F000000
+unfolding evaluateAt applyTags applyOwn toBits
+fad-850 = refl
+
+fad-1000 : opacityAt 1000 (and (Fad 200 300) none) ≡ 0
+unfolding evaluateAt applyTags applyOwn toBits
+fad-1000 = refl
+
+-- an alpha inside \t rounds: 255 down to 0 at half is 128
+alpha-rounds : u8Or (evaluateAt (pos 500) (pos 1000) (and (Alpha1 255) (and (T absent one (and (Alpha1 0) none)) none)) .alphas .«primary_alpha») 0 ≡ 128
+unfolding evaluateAt applyTags applyOwn
+alpha-rounds = refl
