@@ -1,3 +1,4 @@
 pub mod Order
 pub mod Still
 pub mod Start
+pub mod Same

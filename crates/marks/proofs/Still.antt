@@ -1,7 +1,6 @@
 -- An interval none of whose marks lies after t and up to u, and what is then the same at t and at u: how far a \move or a \t has come, what a
 -- stage of \fade gives.
-use mathlib.Core.Path.{_≡_, refl, sym, ap, _∙_}
-use mathlib.Core.Bool.{Bool, true, false}
+use mathlib.Core.Path.{_≡_, sym, ap, _∙_}
 use mathlib.Core.Logic.{⊎-elim}
 use Prim.Native.Nat.{ℕ}
 use lib.IntN.{ℤ, sucℤ}
