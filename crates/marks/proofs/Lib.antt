@@ -1,0 +1,4 @@
+pub mod Order
+pub mod Still
+pub mod Start
+pub mod Same
