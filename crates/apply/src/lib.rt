@@ -1,0 +1,2 @@
+// What each tag but \t does to the state, group by group.
+mod set;
