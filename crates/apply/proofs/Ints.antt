@@ -6,7 +6,7 @@ use mathlib.Core.Path.{_≡_, refl, sym, ap, _∙_}
 use mathlib.Core.Bool.{Bool, true, false, true≢false}
 use lib.Dec.{leb·zero}
 use lib.IntN.{ℤ, pos, negsuc, natAbs, subℕ, _-ℤ_}
-use lib.Signed.{leZ, ltZ}
+use lib.Signed.{leZ, ltZ, mag}
 use mir.Syntax.{w32, w64}
 use mir.Val.{SFits, toZ, ofZ}
 use mir.ValLaws.{toZ-ofZ}
@@ -79,6 +79,10 @@ ask q {a} {b} f g h = rw (toZ-ofZ w32 a f, toZ-ofZ w32 b g) h
 
 pub seen : {a : ℤ} → SFits w32 a → toZ w32 (ofZ w32 a) ≡ a
 seen {a} f = toZ-ofZ w32 a f
+
+-- the same of a call's result
+pub answered : (a : ℤ) → mag a < 2 ^ 31 → toZ w32 (ofZ w32 a) ≡ a
+answered a h = toZ-ofZ w32 a (record { sfits = h })
 
 pub gap : {a b : ℤ} {n : ℕ} → SFits w32 a → SFits w32 b → pos n ≡ toZ w32 (ofZ w32 b) -ℤ toZ w32 (ofZ w32 a) → pos n ≡ b -ℤ a
 gap {a} {b} f g h = rw (toZ-ofZ w32 a f, toZ-ofZ w32 b g) at h

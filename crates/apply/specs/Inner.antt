@@ -93,7 +93,7 @@ groupOf kind = getD groups kind Group.Nothing
 
 -- ---- what a record makes of a group
 
--- what stands by a kind, d where none does
+-- what stands by a kind, d where none does; `..Kinds` has what each kind makes of a group, `..By` what a record does
 unfoldable pub by : {A : Type 0} → ℕ → List (ℕ × A) → A → A
 by kind [] d = d
 by kind (x ∷ l) d = let rest = by kind l d in pick (eqb kind (x .0)) (x .1) rest
@@ -105,9 +105,8 @@ fadBy t dur r s = faded s (fadAlpha (r .w1) (r .w2) t dur)
 abbrev pub fadeBy : ℤ → Record → Always → Always
 fadeBy t r s = faded s (alphaToMul (fadeAlpha (byte (r .w1)) (byte (r .w2)) (byte (r .w3)) (z (r .w4)) (z (r .w5)) (z (r .w6)) (z (r .w7)) t))
 
-unfoldable pub alwaysBy : ℤ → ℤ → Record → Always → Always
-unfolding by faded fadAlpha fadeAlpha alphaToMul toRadians maxZero hundredth
-alwaysBy t dur r s = by (r .kind) (
+abbrev pub alwaysKinds : ℤ → ℤ → Record → Always → List (ℕ × Always)
+alwaysKinds t dur r s =
     (0, fadBy t dur r s) ∷
     (1, fadBy t dur r s) ∷
     (2, fadeBy t r s) ∷
@@ -120,17 +119,22 @@ alwaysBy t dur r s = by (r .kind) (
     (22, setBeStrength s (byte (r .w1))) ∷
     (23, setShear s (at (f (r .w1)) (s .shear .y))) ∷
     (24, setShear s (at (s .shear .x) (f (r .w1)))) ∷
-    []) s
+    []
+
+unfoldable pub alwaysBy : ℤ → ℤ → Record → Always → Always
+unfolding by
+alwaysBy t dur r s = by (r .kind) (alwaysKinds t dur r s) s
+
+-- how far the times of \move and \t have come
+abbrev pub progressBy : ℕ → ℕ → ℕ → ℤ → ℤ → Float
+progressBy flag a b t dur = let x = timesOf flag a b in ramp (startOf x) (endOf x dur) t
 
 -- the place that \move has come to
 abbrev pub movedBy : ℤ → ℤ → Record → OptPair
-movedBy t dur r =
-    let x = timesOf (r .w5) (r .w6) (r .w7) in
-    OptPair.Some (mixPair (at (f (r .w1)) (f (r .w2))) (at (f (r .w3)) (f (r .w4))) (ramp (startOf x) (endOf x dur) t))
+movedBy t dur r = OptPair.Some (mixPair (at (f (r .w1)) (f (r .w2))) (at (f (r .w3)) (f (r .w4))) (progressBy (r .w5) (r .w6) (r .w7) t dur))
 
-unfoldable pub placesBy : ℤ → ℤ → Record → Places → Places
-unfolding by ramp lerp maxZero
-placesBy t dur r s = by (r .kind) (
+abbrev pub placesKinds : ℤ → ℤ → Record → Places → List (ℕ × Places)
+placesKinds t dur r s =
     (3, setTranslate s (OptPair.Some (at (f (r .w1)) (f (r .w2))))) ∷
     (4, setTranslate s (movedBy t dur r)) ∷
     (16, setBorder s (axes (maxZero (f (r .w1))))) ∷
@@ -139,48 +143,63 @@ placesBy t dur r s = by (r .kind) (
     (19, setShadow s (axes (maxZero (f (r .w1))))) ∷
     (20, setShadow s (withX (s .shadow) (f (r .w1)))) ∷
     (21, setShadow s (withY (s .shadow) (f (r .w1)))) ∷
-    []) s
+    []
+
+unfoldable pub placesBy : ℤ → ℤ → Record → Places → Places
+unfolding by
+placesBy t dur r s = by (r .kind) (placesKinds t dur r s) s
 
 abbrev pub rectBy : Record → OptRect
 rectBy r = rectOf (f (r .w1)) (f (r .w2)) (f (r .w3)) (f (r .w4))
 
-unfoldable pub clipsBy : Record → Clips → Clips
-unfolding by rectOf
-clipsBy r s = by (r .kind) (
+abbrev pub clipsKinds : Record → Clips → List (ℕ × Clips)
+clipsKinds r s =
     (11, setClipRect s (rectBy r)) ∷
     (25, setIclipRect s (rectBy r)) ∷
-    []) s
+    []
 
-unfoldable pub sizesBy : Record → Sizes → Sizes
+unfoldable pub clipsBy : Record → Clips → Clips
 unfolding by
-sizesBy r s = by (r .kind) (
+clipsBy r s = by (r .kind) (clipsKinds r s) s
+
+abbrev pub sizesKinds : Record → Sizes → List (ℕ × Sizes)
+sizesKinds r s =
     (10, setFontSize s (OptF32.Some (f (r .w1)))) ∷
     (35, setLetterSpacing s (OptF32.Some (f (r .w1)))) ∷
     (47, setDrawingBaselineOffset s (OptI32.Some (z (r .w1)))) ∷
-    []) s
+    []
 
-unfoldable pub colorsBy : Record → Colors → Colors
+unfoldable pub sizesBy : Record → Sizes → Sizes
 unfolding by
-colorsBy r s = by (r .kind) (
+sizesBy r s = by (r .kind) (sizesKinds r s) s
+
+abbrev pub colorsKinds : Record → Colors → List (ℕ × Colors)
+colorsKinds r s =
     (9, setPrimaryColor s (someRgb (rgbOf r))) ∷
     (27, setSecondaryColor s (someRgb (rgbOf r))) ∷
     (28, setOutlineColor s (someRgb (rgbOf r))) ∷
     (29, setShadowColor s (someRgb (rgbOf r))) ∷
-    []) s
+    []
 
-unfoldable pub alphasBy : Record → Alphas → Alphas
+unfoldable pub colorsBy : Record → Colors → Colors
 unfolding by
-alphasBy r s = by (r .kind) (
+colorsBy r s = by (r .kind) (colorsKinds r s) s
+
+abbrev pub alphasKinds : Record → Alphas → List (ℕ × Alphas)
+alphasKinds r s =
     (30, allAlphas (r .w1)) ∷
     (31, setPrimaryAlpha s (someByte (r .w1))) ∷
     (32, setSecondaryAlpha s (someByte (r .w1))) ∷
     (33, setOutlineAlpha s (someByte (r .w1))) ∷
     (34, setShadowAlpha s (someByte (r .w1))) ∷
-    []) s
+    []
 
-unfoldable pub lineBy : Record → Line → Line
-unfolding by wrapped aligned numpad
-lineBy r s = by (r .kind) (
+unfoldable pub alphasBy : Record → Alphas → Alphas
+unfolding by
+alphasBy r s = by (r .kind) (alphasKinds r s) s
+
+abbrev pub lineKinds : Record → Line → List (ℕ × Line)
+lineKinds r s =
     (12, setClipDrawing s (OptPart.Some (part (partOf (r .w1) (r .w2))))) ∷
     (15, setPivot s (OptPair.Some (at (f (r .w1)) (f (r .w2))))) ∷
     (26, setIclipDrawing s (OptPart.Some (part (partOf (r .w1) (r .w2))))) ∷
@@ -188,21 +207,28 @@ lineBy r s = by (r .kind) (
     (37, aligned s (r .w1)) ∷
     (38, aligned s (numpad (r .w1))) ∷
     (48, setDrawingScale s (someByte (r .w1))) ∷
-    []) s
+    []
+
+unfoldable pub lineBy : Record → Line → Line
+unfolding by
+lineBy r s = by (r .kind) (lineKinds r s) s
 
 abbrev pub nameBy : Record → OptName
 nameBy r = OptName.Some (record { letters = part (partOf (r .w1) (r .w2)); parameter = part (partOf (r .w3) (r .w4)) })
 
-unfoldable pub fontBy : Record → Font → Font
-unfolding by
-fontBy r s = by (r .kind) (
+abbrev pub fontKinds : Record → Font → List (ℕ × Font)
+fontKinds r s =
     (39, setFontName s (nameBy r)) ∷
     (40, setFontEncoding s (someByte (r .w1))) ∷
     (42, setBoldWeight s (OptU16.Some (min (r .w1) 65535))) ∷
     (43, setItalic s (OptBool.Some (flagOf (r .w1)))) ∷
     (44, setUnderline s (OptBool.Some (flagOf (r .w1)))) ∷
     (45, setStrikeout s (OptBool.Some (flagOf (r .w1)))) ∷
-    []) s
+    []
+
+unfoldable pub fontBy : Record → Font → Font
+unfolding by
+fontBy r s = by (r .kind) (fontKinds r s) s
 
 -- \r
 unfoldable pub resetBy : Record → RenderState
