@@ -78,8 +78,8 @@ use values::some_pair;
 use values::some_part;
 use values::some_rect;
 use values::some_rgb;
-use values::some_u16;
 use values::some_u8;
+use values::some_u16;
 use values::with_x;
 use values::with_y;
 
@@ -360,7 +360,12 @@ fn all_alphas(a: u32) -> Alphas
     let secondary_alpha = some_u8(a);
     let outline_alpha = some_u8(a);
     let shadow_alpha = some_u8(a);
-    Alphas { primary_alpha, secondary_alpha, outline_alpha, shadow_alpha }
+    Alphas {
+        primary_alpha,
+        secondary_alpha,
+        outline_alpha,
+        shadow_alpha,
+    }
 }
 
 pub fn apply_alphas(s: Alphas, r: Record) -> Alphas

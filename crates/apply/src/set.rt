@@ -1,7 +1,6 @@
 // A group of the state with one field changed.
 ghost use mathlib.Core.Path.{_≡_};
 ghost use Rattle.state.specs.State.{setAlignment, setAlphaMul, setBeStrength, setBlurSigma, setBoldWeight, setBorder, setClipDrawing, setClipRect, setDrawingBaselineOffset, setDrawingScale, setFontEncoding, setFontName, setFontSize, setIclipDrawing, setIclipRect, setItalic, setLetterSpacing, setOutlineAlpha, setOutlineColor, setPivot, setPrimaryAlpha, setPrimaryColor, setResetToStyle, setRotateRadians, setRotateXRadians, setRotateYRadians, setScale, setSecondaryAlpha, setSecondaryColor, setShadow, setShadowAlpha, setShadowColor, setShear, setStrikeout, setTranslate, setUnderline, setWrapStyle};
-
 use state::Alphas;
 use state::Always;
 use state::Clips;
@@ -17,8 +16,8 @@ use state::OptPart;
 use state::OptRect;
 use state::OptReset;
 use state::OptRgb;
-use state::OptU16;
 use state::OptU8;
+use state::OptU16;
 use state::Pair;
 use state::Places;
 use state::Sizes;
@@ -92,7 +91,11 @@ pub fn set_translate(s: Places, v: OptPair) -> Places
 {
     let border = s.border;
     let shadow = s.shadow;
-    Places { translate: v, border, shadow }
+    Places {
+        translate: v,
+        border,
+        shadow,
+    }
 }
 
 pub fn set_border(s: Places, v: OptPair) -> Places
@@ -100,7 +103,11 @@ pub fn set_border(s: Places, v: OptPair) -> Places
 {
     let translate = s.translate;
     let shadow = s.shadow;
-    Places { translate, border: v, shadow }
+    Places {
+        translate,
+        border: v,
+        shadow,
+    }
 }
 
 pub fn set_shadow(s: Places, v: OptPair) -> Places
@@ -108,21 +115,31 @@ pub fn set_shadow(s: Places, v: OptPair) -> Places
 {
     let translate = s.translate;
     let border = s.border;
-    Places { translate, border, shadow: v }
+    Places {
+        translate,
+        border,
+        shadow: v,
+    }
 }
 
 pub fn set_clip_rect(s: Clips, v: OptRect) -> Clips
     ensures { λ r. ⌜ r ≡ setClipRect s v ⌝ }
 {
     let iclip_rect = s.iclip_rect;
-    Clips { clip_rect: v, iclip_rect }
+    Clips {
+        clip_rect: v,
+        iclip_rect,
+    }
 }
 
 pub fn set_iclip_rect(s: Clips, v: OptRect) -> Clips
     ensures { λ r. ⌜ r ≡ setIclipRect s v ⌝ }
 {
     let clip_rect = s.clip_rect;
-    Clips { clip_rect, iclip_rect: v }
+    Clips {
+        clip_rect,
+        iclip_rect: v,
+    }
 }
 
 pub fn set_font_size(s: Sizes, v: OptF32) -> Sizes
@@ -130,7 +147,11 @@ pub fn set_font_size(s: Sizes, v: OptF32) -> Sizes
 {
     let letter_spacing = s.letter_spacing;
     let drawing_baseline_offset = s.drawing_baseline_offset;
-    Sizes { font_size: v, letter_spacing, drawing_baseline_offset }
+    Sizes {
+        font_size: v,
+        letter_spacing,
+        drawing_baseline_offset,
+    }
 }
 
 pub fn set_letter_spacing(s: Sizes, v: OptF32) -> Sizes
@@ -138,7 +159,11 @@ pub fn set_letter_spacing(s: Sizes, v: OptF32) -> Sizes
 {
     let font_size = s.font_size;
     let drawing_baseline_offset = s.drawing_baseline_offset;
-    Sizes { font_size, letter_spacing: v, drawing_baseline_offset }
+    Sizes {
+        font_size,
+        letter_spacing: v,
+        drawing_baseline_offset,
+    }
 }
 
 pub fn set_drawing_baseline_offset(s: Sizes, v: OptI32) -> Sizes
@@ -146,7 +171,11 @@ pub fn set_drawing_baseline_offset(s: Sizes, v: OptI32) -> Sizes
 {
     let font_size = s.font_size;
     let letter_spacing = s.letter_spacing;
-    Sizes { font_size, letter_spacing, drawing_baseline_offset: v }
+    Sizes {
+        font_size,
+        letter_spacing,
+        drawing_baseline_offset: v,
+    }
 }
 
 pub fn set_primary_color(s: Colors, v: OptRgb) -> Colors
@@ -155,7 +184,12 @@ pub fn set_primary_color(s: Colors, v: OptRgb) -> Colors
     let secondary_color = s.secondary_color;
     let outline_color = s.outline_color;
     let shadow_color = s.shadow_color;
-    Colors { primary_color: v, secondary_color, outline_color, shadow_color }
+    Colors {
+        primary_color: v,
+        secondary_color,
+        outline_color,
+        shadow_color,
+    }
 }
 
 pub fn set_secondary_color(s: Colors, v: OptRgb) -> Colors
@@ -164,7 +198,12 @@ pub fn set_secondary_color(s: Colors, v: OptRgb) -> Colors
     let primary_color = s.primary_color;
     let outline_color = s.outline_color;
     let shadow_color = s.shadow_color;
-    Colors { primary_color, secondary_color: v, outline_color, shadow_color }
+    Colors {
+        primary_color,
+        secondary_color: v,
+        outline_color,
+        shadow_color,
+    }
 }
 
 pub fn set_outline_color(s: Colors, v: OptRgb) -> Colors
@@ -173,7 +212,12 @@ pub fn set_outline_color(s: Colors, v: OptRgb) -> Colors
     let primary_color = s.primary_color;
     let secondary_color = s.secondary_color;
     let shadow_color = s.shadow_color;
-    Colors { primary_color, secondary_color, outline_color: v, shadow_color }
+    Colors {
+        primary_color,
+        secondary_color,
+        outline_color: v,
+        shadow_color,
+    }
 }
 
 pub fn set_shadow_color(s: Colors, v: OptRgb) -> Colors
@@ -182,7 +226,12 @@ pub fn set_shadow_color(s: Colors, v: OptRgb) -> Colors
     let primary_color = s.primary_color;
     let secondary_color = s.secondary_color;
     let outline_color = s.outline_color;
-    Colors { primary_color, secondary_color, outline_color, shadow_color: v }
+    Colors {
+        primary_color,
+        secondary_color,
+        outline_color,
+        shadow_color: v,
+    }
 }
 
 pub fn set_primary_alpha(s: Alphas, v: OptU8) -> Alphas
@@ -191,7 +240,12 @@ pub fn set_primary_alpha(s: Alphas, v: OptU8) -> Alphas
     let secondary_alpha = s.secondary_alpha;
     let outline_alpha = s.outline_alpha;
     let shadow_alpha = s.shadow_alpha;
-    Alphas { primary_alpha: v, secondary_alpha, outline_alpha, shadow_alpha }
+    Alphas {
+        primary_alpha: v,
+        secondary_alpha,
+        outline_alpha,
+        shadow_alpha,
+    }
 }
 
 pub fn set_secondary_alpha(s: Alphas, v: OptU8) -> Alphas
@@ -200,7 +254,12 @@ pub fn set_secondary_alpha(s: Alphas, v: OptU8) -> Alphas
     let primary_alpha = s.primary_alpha;
     let outline_alpha = s.outline_alpha;
     let shadow_alpha = s.shadow_alpha;
-    Alphas { primary_alpha, secondary_alpha: v, outline_alpha, shadow_alpha }
+    Alphas {
+        primary_alpha,
+        secondary_alpha: v,
+        outline_alpha,
+        shadow_alpha,
+    }
 }
 
 pub fn set_outline_alpha(s: Alphas, v: OptU8) -> Alphas
@@ -209,7 +268,12 @@ pub fn set_outline_alpha(s: Alphas, v: OptU8) -> Alphas
     let primary_alpha = s.primary_alpha;
     let secondary_alpha = s.secondary_alpha;
     let shadow_alpha = s.shadow_alpha;
-    Alphas { primary_alpha, secondary_alpha, outline_alpha: v, shadow_alpha }
+    Alphas {
+        primary_alpha,
+        secondary_alpha,
+        outline_alpha: v,
+        shadow_alpha,
+    }
 }
 
 pub fn set_shadow_alpha(s: Alphas, v: OptU8) -> Alphas
@@ -218,7 +282,12 @@ pub fn set_shadow_alpha(s: Alphas, v: OptU8) -> Alphas
     let primary_alpha = s.primary_alpha;
     let secondary_alpha = s.secondary_alpha;
     let outline_alpha = s.outline_alpha;
-    Alphas { primary_alpha, secondary_alpha, outline_alpha, shadow_alpha: v }
+    Alphas {
+        primary_alpha,
+        secondary_alpha,
+        outline_alpha,
+        shadow_alpha: v,
+    }
 }
 
 pub fn set_pivot(s: Line, v: OptPair) -> Line
@@ -230,7 +299,15 @@ pub fn set_pivot(s: Line, v: OptPair) -> Line
     let alignment = s.alignment;
     let reset_to_style = s.reset_to_style;
     let drawing_scale = s.drawing_scale;
-    Line { pivot: v, clip_drawing, iclip_drawing, wrap_style, alignment, reset_to_style, drawing_scale }
+    Line {
+        pivot: v,
+        clip_drawing,
+        iclip_drawing,
+        wrap_style,
+        alignment,
+        reset_to_style,
+        drawing_scale,
+    }
 }
 
 pub fn set_clip_drawing(s: Line, v: OptPart) -> Line
@@ -242,7 +319,15 @@ pub fn set_clip_drawing(s: Line, v: OptPart) -> Line
     let alignment = s.alignment;
     let reset_to_style = s.reset_to_style;
     let drawing_scale = s.drawing_scale;
-    Line { pivot, clip_drawing: v, iclip_drawing, wrap_style, alignment, reset_to_style, drawing_scale }
+    Line {
+        pivot,
+        clip_drawing: v,
+        iclip_drawing,
+        wrap_style,
+        alignment,
+        reset_to_style,
+        drawing_scale,
+    }
 }
 
 pub fn set_iclip_drawing(s: Line, v: OptPart) -> Line
@@ -254,7 +339,15 @@ pub fn set_iclip_drawing(s: Line, v: OptPart) -> Line
     let alignment = s.alignment;
     let reset_to_style = s.reset_to_style;
     let drawing_scale = s.drawing_scale;
-    Line { pivot, clip_drawing, iclip_drawing: v, wrap_style, alignment, reset_to_style, drawing_scale }
+    Line {
+        pivot,
+        clip_drawing,
+        iclip_drawing: v,
+        wrap_style,
+        alignment,
+        reset_to_style,
+        drawing_scale,
+    }
 }
 
 pub fn set_wrap_style(s: Line, v: OptU8) -> Line
@@ -266,7 +359,15 @@ pub fn set_wrap_style(s: Line, v: OptU8) -> Line
     let alignment = s.alignment;
     let reset_to_style = s.reset_to_style;
     let drawing_scale = s.drawing_scale;
-    Line { pivot, clip_drawing, iclip_drawing, wrap_style: v, alignment, reset_to_style, drawing_scale }
+    Line {
+        pivot,
+        clip_drawing,
+        iclip_drawing,
+        wrap_style: v,
+        alignment,
+        reset_to_style,
+        drawing_scale,
+    }
 }
 
 pub fn set_alignment(s: Line, v: OptU8) -> Line
@@ -278,7 +379,15 @@ pub fn set_alignment(s: Line, v: OptU8) -> Line
     let wrap_style = s.wrap_style;
     let reset_to_style = s.reset_to_style;
     let drawing_scale = s.drawing_scale;
-    Line { pivot, clip_drawing, iclip_drawing, wrap_style, alignment: v, reset_to_style, drawing_scale }
+    Line {
+        pivot,
+        clip_drawing,
+        iclip_drawing,
+        wrap_style,
+        alignment: v,
+        reset_to_style,
+        drawing_scale,
+    }
 }
 
 pub fn set_reset_to_style(s: Line, v: OptReset) -> Line
@@ -290,7 +399,15 @@ pub fn set_reset_to_style(s: Line, v: OptReset) -> Line
     let wrap_style = s.wrap_style;
     let alignment = s.alignment;
     let drawing_scale = s.drawing_scale;
-    Line { pivot, clip_drawing, iclip_drawing, wrap_style, alignment, reset_to_style: v, drawing_scale }
+    Line {
+        pivot,
+        clip_drawing,
+        iclip_drawing,
+        wrap_style,
+        alignment,
+        reset_to_style: v,
+        drawing_scale,
+    }
 }
 
 pub fn set_drawing_scale(s: Line, v: OptU8) -> Line
@@ -302,7 +419,15 @@ pub fn set_drawing_scale(s: Line, v: OptU8) -> Line
     let wrap_style = s.wrap_style;
     let alignment = s.alignment;
     let reset_to_style = s.reset_to_style;
-    Line { pivot, clip_drawing, iclip_drawing, wrap_style, alignment, reset_to_style, drawing_scale: v }
+    Line {
+        pivot,
+        clip_drawing,
+        iclip_drawing,
+        wrap_style,
+        alignment,
+        reset_to_style,
+        drawing_scale: v,
+    }
 }
 
 pub fn set_font_name(s: Font, v: OptName) -> Font
@@ -313,7 +438,14 @@ pub fn set_font_name(s: Font, v: OptName) -> Font
     let italic = s.italic;
     let underline = s.underline;
     let strikeout = s.strikeout;
-    Font { font_name: v, font_encoding, bold_weight, italic, underline, strikeout }
+    Font {
+        font_name: v,
+        font_encoding,
+        bold_weight,
+        italic,
+        underline,
+        strikeout,
+    }
 }
 
 pub fn set_font_encoding(s: Font, v: OptU8) -> Font
@@ -324,7 +456,14 @@ pub fn set_font_encoding(s: Font, v: OptU8) -> Font
     let italic = s.italic;
     let underline = s.underline;
     let strikeout = s.strikeout;
-    Font { font_name, font_encoding: v, bold_weight, italic, underline, strikeout }
+    Font {
+        font_name,
+        font_encoding: v,
+        bold_weight,
+        italic,
+        underline,
+        strikeout,
+    }
 }
 
 pub fn set_bold_weight(s: Font, v: OptU16) -> Font
@@ -335,7 +474,14 @@ pub fn set_bold_weight(s: Font, v: OptU16) -> Font
     let italic = s.italic;
     let underline = s.underline;
     let strikeout = s.strikeout;
-    Font { font_name, font_encoding, bold_weight: v, italic, underline, strikeout }
+    Font {
+        font_name,
+        font_encoding,
+        bold_weight: v,
+        italic,
+        underline,
+        strikeout,
+    }
 }
 
 pub fn set_italic(s: Font, v: OptBool) -> Font
@@ -346,7 +492,14 @@ pub fn set_italic(s: Font, v: OptBool) -> Font
     let bold_weight = s.bold_weight;
     let underline = s.underline;
     let strikeout = s.strikeout;
-    Font { font_name, font_encoding, bold_weight, italic: v, underline, strikeout }
+    Font {
+        font_name,
+        font_encoding,
+        bold_weight,
+        italic: v,
+        underline,
+        strikeout,
+    }
 }
 
 pub fn set_underline(s: Font, v: OptBool) -> Font
@@ -357,7 +510,14 @@ pub fn set_underline(s: Font, v: OptBool) -> Font
     let bold_weight = s.bold_weight;
     let italic = s.italic;
     let strikeout = s.strikeout;
-    Font { font_name, font_encoding, bold_weight, italic, underline: v, strikeout }
+    Font {
+        font_name,
+        font_encoding,
+        bold_weight,
+        italic,
+        underline: v,
+        strikeout,
+    }
 }
 
 pub fn set_strikeout(s: Font, v: OptBool) -> Font
@@ -368,5 +528,12 @@ pub fn set_strikeout(s: Font, v: OptBool) -> Font
     let bold_weight = s.bold_weight;
     let italic = s.italic;
     let underline = s.underline;
-    Font { font_name, font_encoding, bold_weight, italic, underline, strikeout: v }
+    Font {
+        font_name,
+        font_encoding,
+        bold_weight,
+        italic,
+        underline,
+        strikeout: v,
+    }
 }

@@ -76,7 +76,11 @@ pub fn fad_alpha(t1: u32, t2: u32, t: i32, dur: i32) -> f32
 fn cut_between(a: u8, b: u8, k: f32) -> u8
     ensures { λ r. ⌜ r ≡ cutBetween a b k ⌝ }
 {
-    float::cut_byte(float::lerp_f32(float::nearest_u32(a as u32), float::nearest_u32(b as u32), k))
+    float::cut_byte(float::lerp_f32(
+        float::nearest_u32(a as u32),
+        float::nearest_u32(b as u32),
+        k,
+    ))
 }
 
 pub fn fade_alpha(a1: u8, a2: u8, a3: u8, t1: i32, t2: i32, t3: i32, t4: i32, t: i32) -> u8

@@ -6,7 +6,6 @@ ghost use Rattle.scan.specs.Scan.{pick};
 ghost use Rattle.tag.specs.Decode.{f, flagOf, partOf, rgbOf, resetOf as resetIn};
 ghost use Rattle.state.specs.Apply.{byte as byteOf, at, orZero, withX, withY, axes, part, someRgb, someByte, resetOf, numpad as numpadOf};
 ghost use Rattle.apply.specs.Inner.{rectBy, nameBy};
-
 use state::ClipRect;
 use state::Name;
 use state::OptBool;
@@ -17,8 +16,8 @@ use state::OptPart;
 use state::OptRect;
 use state::OptReset;
 use state::OptRgb;
-use state::OptU16;
 use state::OptU8;
+use state::OptU16;
 use state::Pair;
 use state::Part;
 use state::Rgb;
@@ -87,8 +86,14 @@ pub fn some_part(a: u32, b: u32) -> OptPart
 pub fn some_name(r: Record) -> OptName
     ensures { λ n. ⌜ n ≡ nameBy r ⌝ }
 {
-    let letters = Part { offset: r.w1, size: r.w2 };
-    let parameter = Part { offset: r.w3, size: r.w4 };
+    let letters = Part {
+        offset: r.w1,
+        size: r.w2,
+    };
+    let parameter = Part {
+        offset: r.w3,
+        size: r.w4,
+    };
     OptName::Some(Name { letters, parameter })
 }
 
@@ -184,5 +189,8 @@ pub fn reset_of(r: Record) -> OptReset
     if flag == 0 {
         return OptReset::Plain;
     }
-    OptReset::Named(Part { offset: r.w2, size: r.w3 })
+    OptReset::Named(Part {
+        offset: r.w2,
+        size: r.w3,
+    })
 }

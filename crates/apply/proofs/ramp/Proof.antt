@@ -24,7 +24,7 @@ unfolding ramp ofBits
 returns-4 c = let x = c .before .before .before .fits in rw (told leZ (x .end) (x .start) (c .before .before .if1 .left), told leZ (x .t) (x .start) (c .before .if3 .left), told leZ (x .end) (x .t) (c .if4 .taken))
 
 passed-requires : tie.Need-passed-requires
-passed-requires c κs = 
+passed-requires c κs =
     let a = c .before .before .before .args in
     let x = c .before .before .before .fits in
     let h = not-le (a .t) (a .start) (told leZ (x .t) (x .start) (c .before .if3 .left)) in
@@ -33,7 +33,7 @@ passed-requires c κs =
 
 returns-5 : tie.Need-returns-5
 unfolding ramp
-returns-5 c = 
+returns-5 c =
     let q = c .before in
     let x = q .before .before .before .fits in
     rw (told leZ (x .end) (x .start) (q .before .before .if1 .left), told leZ (x .t) (x .start) (q .before .if3 .left), told leZ (x .end) (x .t) (q .if4 .left), c .passed .ensures, seen (x .start), seen (x .end), seen (x .t))

@@ -1,15 +1,10 @@
-use borrow.Author.Needs.{needs}
 use Rattle.apply.proofs.shear_y.Statement.{statement}
 use Rattle.apply.proofs.shear_y.Tie as tie
 
-f32-of-word-requires : tie.Need-f32-of-word-requires
-f32-of-word-requires c κs = search needs
-
-set-shear-requires : tie.Need-set-shear-requires
-set-shear-requires c κs = search needs
-
-returns : tie.Need-returns
-returns c = rw (c .set-shear .ensures, c .before .f32-of-word .ensures)
-
 pub shear-y-spec : {M : Type 1} → statement M
-shear-y-spec = tie.close (tie.spec f32-of-word-requires set-shear-requires returns)
+shear-y-spec =
+    tie.close
+    (tie.spec
+    (λ c κs. tt)
+    (λ c κs. tt)
+    (λ c. rw (c .set-shear .ensures, c .before .f32-of-word .ensures)))

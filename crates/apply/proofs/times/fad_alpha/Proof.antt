@@ -22,7 +22,7 @@ clamp-requires c κs = search needs
 
 returns : tie.Need-returns
 unfolding fadAlpha ofBits
-returns c = 
+returns c =
     let x = c .before .before .before .before .before .fits in
     rw (c .clamp .ensures, c .before .fade-out .ensures, c .before .before .fade-in .ensures, c .before .before .before .from-zero2 .ensures, c .before .before .before .before .from-zero .ensures, seen (x .t), seen (x .dur))
 

@@ -29,7 +29,7 @@ clamp-requires c κs = search needs
 
 returns-3 : tie.Need-returns-3
 unfolding fadeOut ofBits
-returns-3 c = 
+returns-3 c =
     let q = c .before .before in
     let a = q .before .before .before .before .args in
     let e = q .before .less .ensures in
@@ -38,7 +38,7 @@ returns-3 c =
 
 returns-4 : tie.Need-returns-4
 unfolding fadeOut ofBits
-returns-4 c = 
+returns-4 c =
     let a = c .before .before .before .before .args in
     let e = c .before .less .ensures in
     let h : a .t ≤ a .d - a .t2 = omega arith in

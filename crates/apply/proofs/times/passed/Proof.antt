@@ -15,7 +15,7 @@ ratio-requires : tie.Need-ratio-requires
 ratio-requires c κs = search needs
 
 returns : tie.Need-returns
-returns c = 
+returns c =
     let x = c .before .before .before .fits in
     rw (c .ratio .ensures, gap (x .start) (x .t) (c .before .before .distance .ensures), gap (x .start) (x .end) (c .before .distance2 .ensures))
 

@@ -1,17 +1,12 @@
 use Rattle.state.specs.Mix.{quotient}
-use borrow.Author.Needs.{needs}
 use Rattle.apply.proofs.times.ratio.Statement.{statement}
 use Rattle.apply.proofs.times.ratio.Tie as tie
 
-nearest-u32-requires : tie.Need-nearest-u32-requires
-nearest-u32-requires c κs = search needs
-
-nearest-u32-requires-2 : tie.Need-nearest-u32-requires-2
-nearest-u32-requires-2 c κs = search needs
-
-returns : tie.Need-returns
-unfolding quotient
-returns c = rw (c .before .nearest-u32 .ensures, c .nearest-u322 .ensures)
-
 pub ratio-spec : {M : Type 1} → statement M
-ratio-spec = tie.close (tie.spec nearest-u32-requires nearest-u32-requires-2 returns)
+unfolding quotient
+ratio-spec =
+    tie.close
+    (tie.spec
+    (λ c κs. tt)
+    (λ c κs. tt)
+    (λ c. rw (c .before .nearest-u32 .ensures, c .nearest-u322 .ensures)))

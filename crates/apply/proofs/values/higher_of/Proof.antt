@@ -1,11 +1,9 @@
 use Rattle.apply.proofs.values.higher_of.Statement.{statement}
 use Rattle.apply.proofs.values.higher_of.Tie as tie
 
-returns : tie.Need-returns
-returns c = rw (c .if1 .taken)
-
-returns-2 : tie.Need-returns-2
-returns-2 c = rw (c .if1 .left)
-
 pub higher-of-spec : {M : Type 1} → statement M
-higher-of-spec = tie.close (tie.spec returns returns-2)
+higher-of-spec =
+    tie.close
+    (tie.spec
+    (λ c. rw (c .if1 .taken))
+    (λ c. rw (c .if1 .left)))

@@ -1,11 +1,9 @@
 use Rattle.apply.proofs.values.lower_of.Statement.{statement}
 use Rattle.apply.proofs.values.lower_of.Tie as tie
 
-returns : tie.Need-returns
-returns c = rw (c .if1 .taken)
-
-returns-2 : tie.Need-returns-2
-returns-2 c = rw (c .if1 .left)
-
 pub lower-of-spec : {M : Type 1} → statement M
-lower-of-spec = tie.close (tie.spec returns returns-2)
+lower-of-spec =
+    tie.close
+    (tie.spec
+    (λ c. rw (c .if1 .taken))
+    (λ c. rw (c .if1 .left)))
