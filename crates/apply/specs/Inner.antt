@@ -6,7 +6,7 @@ use lib.IntN.{ℤ}
 use lib.Ieee.{Float}
 use lib.ListN.{getD}
 use Rattle.scan.specs.Scan.{pick}
-use Rattle.float.specs.Float.{maxZero, lerp, toRadians}
+use Rattle.float.specs.Float.{maxZero, toRadians}
 use Rattle.tag.specs.declared.Record.{Record}
 use Rattle.tag.specs.Decode.{f, z, flagOf, timesOf, partOf, rgbOf, resetOf as resetIn}
 use Rattle.state.specs.declared.OptF32.{OptF32}

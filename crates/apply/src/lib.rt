@@ -7,7 +7,6 @@ ghost use Rattle.state.specs.Mix.{ramp as rampOf};
 ghost use Rattle.state.specs.Apply.{at, hundredth as hundredthOf, faded as fadedBy, allAlphas, aligned as alignedBy, wrapped as wrappedBy};
 ghost use Rattle.apply.specs.Inner.{groupOf, fadBy, fadeBy, alwaysBy, progressBy, movedBy, placesBy, clipsBy, sizesBy, colorsBy, alphasBy, lineBy, fontBy, resetBy};
 
-mod set;
 mod times;
 mod values;
 

@@ -1,5 +1,3 @@
-use mathlib.Core.Path.{_≡_}
-use mathlib.Core.Bool.{true}
 use lib.Signed.{leZ}
 use lib.Ieee.{ofBits}
 use Rattle.state.specs.Mix.{ramp}

@@ -1,8 +1,8 @@
-use mathlib.Core.Path.{_≡_, refl, sym, ap, _∙_}
+use mathlib.Core.Path.{sym}
 use mir.Syntax.{w32, w64}
 use mir.ValLaws.{toZ-ofZ}
 use lib.IntN.{pos}
-use Rattle.apply.proofs.Ints.{wide, through, apart, dist, dist-is, dist-wide, dist-fits}
+use Rattle.apply.proofs.Ints.{wide, apart, dist, dist-is, dist-wide, dist-fits}
 use Rattle.apply.proofs.times.distance.Statement.{statement}
 use Rattle.apply.proofs.times.distance.Tie as tie
 

@@ -1,5 +1,3 @@
-use mathlib.Core.Path.{_≡_}
-use mathlib.Core.Bool.{true}
 use lib.Signed.{leZ, ltZ}
 use Rattle.state.specs.Apply.{fadeAlpha}
 use Rattle.apply.proofs.Ints.{told, ask, seen, not-lt, le-lt}

@@ -1,6 +1,4 @@
 use Rattle.apply.proofs.Ints.{gap}
-use lib.IntN.{pos}
-use mathlib.Core.Path.{_≡_}
 use borrow.Author.Needs.{needs}
 use Rattle.apply.proofs.times.passed.Statement.{statement}
 use Rattle.apply.proofs.times.passed.Tie as tie

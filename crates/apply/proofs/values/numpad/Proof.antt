@@ -1,4 +1,3 @@
-use mathlib.Core.Path.{sym}
 use lib.ListN.{List·getD-eq-default}
 use Prim.Native.Nat.{_≤_}
 use Rattle.state.specs.Apply.{numpad}
