@@ -1,8 +1,9 @@
--- One turn of each loop of `power_256`, and its end.
-use mathlib.Core.Path.{_≡_, refl, ap, _∙_}
-use Prim.Native.Nat.{ℕ, zero, suc, _-_, _/_, _%_, _^_, _≤_}
-use native.Mathlib.Nat.{not-suc-le-zero}
+-- One turn of each loop, and its end; a whole power takes no roots.
+use mathlib.Core.Path.{_≡_, refl, sym, ap, _∙_}
+use Prim.Native.Nat.{ℕ, zero, suc, _-_, _*_, _/_, _%_, _^_, _≤_}
+use native.Mathlib.Nat.{not-suc-le-zero, mul-assoc, pow-succ', one-le-pow, mul-div-cancel, mul-mod-left}
 use native.Mathlib.Omega.{arith}
+use lib.Dec.{lit≤}
 use lib.Ieee.{Float, binary32, mul, ofBits}
 use Rattle.float.specs.Float.{one}
 use Rattle.root.specs.Root.{sqrt}
@@ -46,6 +47,19 @@ if-zero d y p e = ap (λ (n : ℕ). ifOne n y p) e
 pub power-is : (x : Float) (v : ℕ) (p : Float) → p ≡ times (v / 256) x one → roots 8 v x p ≡ power256 x v
 unfolding power256
 power-is x v p e = ap (λ (q : Float). roots 8 v x q) e
+
+-- digits that are all 0 leave p as it is
+no-roots : (d w v : ℕ) (r p : Float) → v ≡ w * 2 ^ d → roots d v r p ≡ p
+unfolding roots
+no-roots zero w v r p e = refl
+no-roots (suc d) w v r p e =
+    let y = sqrt binary32 r in
+    let f : v ≡ w * 2 * 2 ^ d = e ∙ ap (λ (n : ℕ). w * n) (pow-succ' 2 d) ∙ sym (mul-assoc w 2 (2 ^ d)) in
+    let digit : v / 2 ^ d % 2 ≡ 0 = ap (λ (n : ℕ). n / 2 ^ d % 2) f ∙ ap (λ (n : ℕ). n % 2) (mul-div-cancel (w * 2) (one-le-pow d 2 (lit≤ tt))) ∙ mul-mod-left w 2 in
+    ap (λ (q : Float). roots d v y q) (if-zero (v / 2 ^ d % 2) y p digit) ∙ no-roots d (w * 2) v y p f
+
+pub whole-power : (x : Float) (v : ℕ) (p : Float) → v % 256 ≡ 0 → p ≡ times (v / 256) x one → p ≡ power256 x v
+whole-power x v p h e = sym (no-roots 8 (v / 256) v x p (omega arith)) ∙ power-is x v p e
 
 pub a-one : ofBits binary32 1065353216 ≡ one
 unfolding ofBits

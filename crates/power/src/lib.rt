@@ -2,8 +2,8 @@
 ghost use mathlib.Core.Path.{_≡_};
 ghost use lib.Dec.{T};
 ghost use lib.Ieee as Ieee;
-ghost use Rattle.float.specs.Float.{zero};
-ghost use Rattle.power.specs.Power.{steps, power256, powerUp, power};
+ghost use Rattle.float.specs.Float.{zero, one};
+ghost use Rattle.power.specs.Power.{times, roots, steps, power256, powerUp, power};
 
 // 256 times a, cut down to a whole number, at most 64 * 256.
 fn in_256ths(a: f32) -> u32
@@ -13,16 +13,24 @@ fn in_256ths(a: f32) -> u32
     if a < 64.0 { float::scaled(a, 8) } else { 16384 }
 }
 
-// x to the power v / 256.
-fn power_256(x: f32, v: u32) -> f32
-    ensures { λ r. ⌜ r ≡ power256 x v ⌝ }
+// x multiplied n times over.
+fn whole(x: f32, n: u32) -> f32
+    ensures { λ r. ⌜ r ≡ times n x one ⌝ }
 {
     let mut p: f32 = 1.0;
-    let mut i = v / 256;
+    let mut i = n;
     while i > 0 {
         p = p * x;
         i -= 1;
     }
+    p
+}
+
+// p with the eight binary digits of v's fraction.
+fn fraction(x: f32, v: u32, whole: f32) -> f32
+    ensures { λ q. ⌜ q ≡ roots 8 v x whole ⌝ }
+{
+    let mut p = whole;
     let mut r = x;
     let mut d: u32 = 8;
     while d > 0 {
@@ -33,6 +41,14 @@ fn power_256(x: f32, v: u32) -> f32
         }
     }
     p
+}
+
+// x to the power v / 256. A whole power takes no roots.
+fn power_256(x: f32, v: u32) -> f32
+    ensures { λ r. ⌜ r ≡ power256 x v ⌝ }
+{
+    let p = whole(x, v / 256);
+    if v % 256 == 0 { p } else { fraction(x, v, p) }
 }
 
 // x to a power above 0.

@@ -1,0 +1,27 @@
+-- The laws that the functions of the factor stand on.
+use mathlib.Core.Path.{_≡_, refl}
+use mathlib.Core.Bool.{Bool, true, false}
+use lib.Ieee.{Float, nan, inf, fin, lt}
+use lib.IntN.{ℤ}
+use Rattle.tag.specs.Tag.{Times}
+use Rattle.state.specs.Mix.{startOf, endOf, ramp, finite, accelOf, bent, held, factor}
+
+-- a finite float lies between the infinities
+pub finite-is : (x : Float) → lt (inf true) x ≡ true → lt x (inf false) ≡ finite x
+unfolding lt
+finite-is nan h = refl
+finite-is (inf true) h = let z : _≡_ {A = Bool} false true = h in cc
+finite-is (inf false) h = refl
+finite-is (fin s m e) h = refl
+
+pub not-finite : (x : Float) → lt (inf true) x ≡ false → false ≡ finite x
+unfolding lt
+not-finite nan h = refl
+not-finite (inf s) h = refl
+not-finite (fin s m e) h = let z : _≡_ {A = Bool} true false = h in cc
+
+-- `factor`, step by step
+pub factor-is : (x : Times) (accel : Float) (t dur : ℤ) (raw a k v : Float) →
+    raw ≡ ramp (startOf x) (endOf x dur) t → a ≡ accelOf accel → k ≡ bent raw a → v ≡ held raw k → v ≡ factor x accel t dur
+unfolding factor
+factor-is x accel t dur raw a k v p q r s = rw (s, r, q, p)

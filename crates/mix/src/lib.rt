@@ -1,0 +1,473 @@
+// How far a \t has come, and how a state goes over into another inside it.
+use state::Alphas;
+use state::Always;
+use state::ClipRect;
+use state::Clips;
+use state::Colors;
+use state::Font;
+use state::Line;
+use state::OptF32;
+use state::OptI32;
+use state::OptPair;
+use state::OptRect;
+use state::OptRgb;
+use state::OptU8;
+use state::Pair;
+use state::Places;
+use state::RenderState;
+use state::Rgb;
+use state::Sizes;
+use tag::Record;
+ghost use mathlib.Core.Path.{_≡_};
+ghost use Rattle.scan.specs.Scan.{pick};
+ghost use Rattle.tag.specs.Decode.{timesOf, f};
+ghost use Rattle.state.specs.Mix.{startOf, endOf, ramp as rampOf, finite as finiteOf, nearZero, accelOf, bent as bentOf, held as heldOf, factor as factorOf, f32Or, i32Or, lerpBytes, mixAlphas, mixAlways, mixClips, mixColors, mixF32, mixFont, mixI32, mixLine, mixOptPair, mixOptRect, mixOptRgb, mixPair, mixPlaces, mixRect, mixRgb, mixSizes, mixStrength, mixU8, pairOr, rectOr, rgbOr, samePair, u8Or, between as betweenOf};
+
+// ---- the factor
+
+fn finite(x: f32) -> bool
+    ensures { λ r. ⌜ r ≡ finiteOf x ⌝ }
+{
+    if x > f32::from_bits(0xFF800000) {
+        x < f32::from_bits(0x7F800000)
+    } else {
+        false
+    }
+}
+
+// Within f32::EPSILON of 0.
+fn near_zero(a: f32) -> bool
+    ensures { λ r. ⌜ r ≡ nearZero a ⌝ }
+{
+    let epsilon = f32::from_bits(0x34000000);
+    if a > -epsilon { a < epsilon } else { false }
+}
+
+fn accel_of(a: f32) -> f32
+    ensures { λ r. ⌜ r ≡ accelOf a ⌝ }
+{
+    if finite(a) { a } else { 1.0 }
+}
+
+fn bent(raw: f32, a: f32) -> f32
+    ensures { λ r. ⌜ r ≡ bentOf raw a ⌝ }
+{
+    if near_zero(a) {
+        raw
+    } else {
+        power::power_of(raw, a)
+    }
+}
+
+fn held(raw: f32, k: f32) -> f32
+    ensures { λ r. ⌜ r ≡ heldOf raw k ⌝ }
+{
+    if finite(k) {
+        float::clamp(k, 0.0, 1.0)
+    } else {
+        raw
+    }
+}
+
+// How far t is on the way of a \t, before it is bent.
+fn raw_of(r: Record, t: i32, dur: i32) -> f32
+    ensures { λ v. ⌜ v ≡ rampOf (startOf (timesOf (r .w1) (r .w2) (r .w3))) (endOf (timesOf (r .w1) (r .w2) (r .w3)) dur) t ⌝ }
+{
+    if r.w1 == 0 {
+        ramp::ramp(0, dur, t)
+    } else {
+        ramp::ramp(float::of_word(r.w2), float::of_word(r.w3), t)
+    }
+}
+
+// How far the \t of a record has come at t, in a line of dur milliseconds.
+pub fn factor(r: Record, t: i32, dur: i32) -> f32
+    ensures { λ v. ⌜ v ≡ factorOf (timesOf (r .w1) (r .w2) (r .w3)) (f (r .w4)) t dur ⌝ }
+{
+    let raw = raw_of(r, t, dur);
+    let accel = accel_of(float::f32_of_word(r.w4));
+    held(raw, bent(raw, accel))
+}
+
+// ---- numbers between two
+
+fn mix_pair(a: Pair, b: Pair, k: f32) -> Pair
+    ensures { λ r. ⌜ r ≡ mixPair a b k ⌝ }
+{
+    Pair {
+        x: float::lerp_f32(a.x, b.x, k),
+        y: float::lerp_f32(a.y, b.y, k),
+    }
+}
+
+fn mix_rect(a: ClipRect, b: ClipRect, k: f32) -> ClipRect
+    ensures { λ r. ⌜ r ≡ mixRect a b k ⌝ }
+{
+    ClipRect {
+        x1: float::lerp_f32(a.x1, b.x1, k),
+        y1: float::lerp_f32(a.y1, b.y1, k),
+        x2: float::lerp_f32(a.x2, b.x2, k),
+        y2: float::lerp_f32(a.y2, b.y2, k),
+    }
+}
+
+fn between_bytes(a: u8, b: u8, k: f32) -> f32
+    ensures { λ r. ⌜ r ≡ lerpBytes a b k ⌝ }
+{
+    float::lerp_f32(
+        float::nearest_u32(a as u32),
+        float::nearest_u32(b as u32),
+        k,
+    )
+}
+
+fn mix_rgb(a: Rgb, b: Rgb, k: f32) -> Rgb
+    ensures { λ r. ⌜ r ≡ mixRgb a b k ⌝ }
+{
+    Rgb {
+        red: float::cut_byte(between_bytes(a.red, b.red, k)),
+        green: float::cut_byte(between_bytes(a.green, b.green, k)),
+        blue: float::cut_byte(between_bytes(a.blue, b.blue, k)),
+    }
+}
+
+fn f32_or(a: OptF32, y: f32) -> f32
+    ensures { λ r. ⌜ r ≡ f32Or a y ⌝ }
+{
+    match a {
+        OptF32::None => y,
+        OptF32::Some(x) => x,
+    }
+}
+
+fn pair_or(a: OptPair, y: Pair) -> Pair
+    ensures { λ r. ⌜ r ≡ pairOr a y ⌝ }
+{
+    match a {
+        OptPair::None => y,
+        OptPair::Some(x) => x,
+    }
+}
+
+fn rect_or(a: OptRect, y: ClipRect) -> ClipRect
+    ensures { λ r. ⌜ r ≡ rectOr a y ⌝ }
+{
+    match a {
+        OptRect::None => y,
+        OptRect::Some(x) => x,
+    }
+}
+
+fn rgb_or(a: OptRgb, y: Rgb) -> Rgb
+    ensures { λ r. ⌜ r ≡ rgbOr a y ⌝ }
+{
+    match a {
+        OptRgb::None => y,
+        OptRgb::Some(x) => x,
+    }
+}
+
+fn u8_or(a: OptU8, y: u8) -> u8
+    ensures { λ r. ⌜ r ≡ u8Or a y ⌝ }
+{
+    match a {
+        OptU8::None => y,
+        OptU8::Some(x) => x,
+    }
+}
+
+fn i32_or(a: OptI32, y: i32) -> i32
+    ensures { λ r. ⌜ r ≡ i32Or a y ⌝ }
+{
+    match a {
+        OptI32::None => y,
+        OptI32::Some(x) => x,
+    }
+}
+
+fn mix_opt_f32(a: OptF32, b: OptF32, k: f32) -> OptF32
+    ensures { λ r. ⌜ r ≡ mixF32 a b k ⌝ }
+{
+    match b {
+        OptF32::None => a,
+        OptF32::Some(y) => OptF32::Some(float::lerp_f32(f32_or(a, y), y, k)),
+    }
+}
+
+fn mix_opt_pair(a: OptPair, b: OptPair, k: f32) -> OptPair
+    ensures { λ r. ⌜ r ≡ mixOptPair a b k ⌝ }
+{
+    match b {
+        OptPair::None => a,
+        OptPair::Some(y) => OptPair::Some(mix_pair(pair_or(a, y), y, k)),
+    }
+}
+
+fn mix_opt_rect(a: OptRect, b: OptRect, k: f32) -> OptRect
+    ensures { λ r. ⌜ r ≡ mixOptRect a b k ⌝ }
+{
+    match b {
+        OptRect::None => a,
+        OptRect::Some(y) => OptRect::Some(mix_rect(rect_or(a, y), y, k)),
+    }
+}
+
+fn mix_opt_rgb(a: OptRgb, b: OptRgb, k: f32) -> OptRgb
+    ensures { λ r. ⌜ r ≡ mixOptRgb a b k ⌝ }
+{
+    match b {
+        OptRgb::None => a,
+        OptRgb::Some(y) => OptRgb::Some(mix_rgb(rgb_or(a, y), y, k)),
+    }
+}
+
+fn mix_opt_u8(a: OptU8, b: OptU8, k: f32) -> OptU8
+    ensures { λ r. ⌜ r ≡ mixU8 a b k ⌝ }
+{
+    match b {
+        OptU8::None => a,
+        OptU8::Some(y) => OptU8::Some(float::round_byte(between_bytes(u8_or(a, y), y, k))),
+    }
+}
+
+fn mix_opt_i32(a: OptI32, b: OptI32, k: f32) -> OptI32
+    ensures { λ r. ⌜ r ≡ mixI32 a b k ⌝ }
+{
+    match b {
+        OptI32::None => a,
+        OptI32::Some(y) => OptI32::Some(float::round_away(float::lerp_f32(
+            float::nearest_i32(i32_or(a, 0)),
+            float::nearest_i32(y),
+            k,
+        ))),
+    }
+}
+
+fn mix_strength(a: u8, b: u8, k: f32) -> u8
+    ensures { λ r. ⌜ r ≡ mixStrength a b k ⌝ }
+{
+    if a == b {
+        a
+    } else {
+        float::round_byte(between_bytes(a, b, k))
+    }
+}
+
+fn mix_always(a: Always, b: Always, k: f32) -> Always
+    ensures { λ r. ⌜ r ≡ mixAlways a b k ⌝ }
+{
+    let a_scale = a.scale;
+    let b_scale = b.scale;
+    let a_shear = a.shear;
+    let b_shear = b.shear;
+    let alpha_mul = float::lerp_f32(a.alpha_mul, b.alpha_mul, k);
+    let rotate_radians = float::lerp_f32(a.rotate_radians, b.rotate_radians, k);
+    let rotate_x_radians = float::lerp_f32(a.rotate_x_radians, b.rotate_x_radians, k);
+    let rotate_y_radians = float::lerp_f32(a.rotate_y_radians, b.rotate_y_radians, k);
+    let scale = mix_pair(a_scale, b_scale, k);
+    let blur_sigma = float::max_zero(float::lerp_f32(a.blur_sigma, b.blur_sigma, k));
+    let be_strength = mix_strength(a.be_strength, b.be_strength, k);
+    let shear = mix_pair(a_shear, b_shear, k);
+    Always {
+        alpha_mul,
+        rotate_radians,
+        rotate_x_radians,
+        rotate_y_radians,
+        scale,
+        blur_sigma,
+        be_strength,
+        shear,
+    }
+}
+
+fn mix_places(a: Places, b: Places, k: f32) -> Places
+    ensures { λ r. ⌜ r ≡ mixPlaces a b k ⌝ }
+{
+    let a_translate = a.translate;
+    let b_translate = b.translate;
+    let a_border = a.border;
+    let b_border = b.border;
+    let a_shadow = a.shadow;
+    let b_shadow = b.shadow;
+    let translate = mix_opt_pair(a_translate, b_translate, k);
+    let border = mix_opt_pair(a_border, b_border, k);
+    let shadow = mix_opt_pair(a_shadow, b_shadow, k);
+    Places {
+        translate,
+        border,
+        shadow,
+    }
+}
+
+fn mix_clips(a: Clips, b: Clips, k: f32) -> Clips
+    ensures { λ r. ⌜ r ≡ mixClips a b k ⌝ }
+{
+    let a_clip = a.clip_rect;
+    let b_clip = b.clip_rect;
+    let a_iclip = a.iclip_rect;
+    let b_iclip = b.iclip_rect;
+    let clip_rect = mix_opt_rect(a_clip, b_clip, k);
+    let iclip_rect = mix_opt_rect(a_iclip, b_iclip, k);
+    Clips {
+        clip_rect,
+        iclip_rect,
+    }
+}
+
+fn mix_sizes(a: Sizes, b: Sizes, k: f32) -> Sizes
+    ensures { λ r. ⌜ r ≡ mixSizes a b k ⌝ }
+{
+    let a_size = a.font_size;
+    let b_size = b.font_size;
+    let a_spacing = a.letter_spacing;
+    let b_spacing = b.letter_spacing;
+    let a_offset = a.drawing_baseline_offset;
+    let b_offset = b.drawing_baseline_offset;
+    let font_size = mix_opt_f32(a_size, b_size, k);
+    let letter_spacing = mix_opt_f32(a_spacing, b_spacing, k);
+    let drawing_baseline_offset = mix_opt_i32(a_offset, b_offset, k);
+    Sizes {
+        font_size,
+        letter_spacing,
+        drawing_baseline_offset,
+    }
+}
+
+fn mix_colors(a: Colors, b: Colors, k: f32) -> Colors
+    ensures { λ r. ⌜ r ≡ mixColors a b k ⌝ }
+{
+    let a1 = a.primary_color;
+    let b1 = b.primary_color;
+    let a2 = a.secondary_color;
+    let b2 = b.secondary_color;
+    let a3 = a.outline_color;
+    let b3 = b.outline_color;
+    let a4 = a.shadow_color;
+    let b4 = b.shadow_color;
+    let primary_color = mix_opt_rgb(a1, b1, k);
+    let secondary_color = mix_opt_rgb(a2, b2, k);
+    let outline_color = mix_opt_rgb(a3, b3, k);
+    let shadow_color = mix_opt_rgb(a4, b4, k);
+    Colors {
+        primary_color,
+        secondary_color,
+        outline_color,
+        shadow_color,
+    }
+}
+
+fn mix_alphas(a: Alphas, b: Alphas, k: f32) -> Alphas
+    ensures { λ r. ⌜ r ≡ mixAlphas a b k ⌝ }
+{
+    let a1 = a.primary_alpha;
+    let b1 = b.primary_alpha;
+    let a2 = a.secondary_alpha;
+    let b2 = b.secondary_alpha;
+    let a3 = a.outline_alpha;
+    let b3 = b.outline_alpha;
+    let a4 = a.shadow_alpha;
+    let b4 = b.shadow_alpha;
+    let primary_alpha = mix_opt_u8(a1, b1, k);
+    let secondary_alpha = mix_opt_u8(a2, b2, k);
+    let outline_alpha = mix_opt_u8(a3, b3, k);
+    let shadow_alpha = mix_opt_u8(a4, b4, k);
+    Alphas {
+        primary_alpha,
+        secondary_alpha,
+        outline_alpha,
+        shadow_alpha,
+    }
+}
+
+fn equal_pairs(a: OptPair, b: OptPair) -> bool
+    ensures { λ r. ⌜ r ≡ samePair a b ⌝ }
+{
+    match a {
+        OptPair::None => match b {
+            OptPair::None => true,
+            OptPair::Some(_) => false,
+        },
+        OptPair::Some(p) => match b {
+            OptPair::None => false,
+            OptPair::Some(q) => if p.x == q.x { p.y == q.y } else { false },
+        },
+    }
+}
+
+fn kept_pivot(a: OptPair, b: OptPair) -> OptPair
+    ensures { λ r. ⌜ r ≡ pick (samePair a b) a b ⌝ }
+{
+    if equal_pairs(a, b) { a } else { b }
+}
+
+fn mix_line(a: Line, b: Line, k: f32) -> Line
+    ensures { λ r. ⌜ r ≡ mixLine a b k ⌝ }
+{
+    if k > 0.0 {
+        let a_pivot = a.pivot;
+        let b_pivot = b.pivot;
+        let pivot = kept_pivot(a_pivot, b_pivot);
+        let clip_drawing = b.clip_drawing;
+        let iclip_drawing = b.iclip_drawing;
+        let wrap_style = b.wrap_style;
+        let alignment = b.alignment;
+        let reset_to_style = b.reset_to_style;
+        let drawing_scale = b.drawing_scale;
+        Line {
+            pivot,
+            clip_drawing,
+            iclip_drawing,
+            wrap_style,
+            alignment,
+            reset_to_style,
+            drawing_scale,
+        }
+    } else {
+        a
+    }
+}
+
+fn mix_font(a: Font, b: Font, k: f32) -> Font
+    ensures { λ r. ⌜ r ≡ mixFont a b k ⌝ }
+{
+    if k > 0.0 { b } else { a }
+}
+
+pub fn between(k: f32, a: RenderState, b: RenderState) -> RenderState
+    ensures { λ r. ⌜ r ≡ betweenOf k a b ⌝ }
+{
+    let a_always = a.always;
+    let b_always = b.always;
+    let a_places = a.places;
+    let b_places = b.places;
+    let a_clips = a.clips;
+    let b_clips = b.clips;
+    let a_sizes = a.sizes;
+    let b_sizes = b.sizes;
+    let a_colors = a.colors;
+    let b_colors = b.colors;
+    let a_alphas = a.alphas;
+    let b_alphas = b.alphas;
+    let a_line = a.line;
+    let b_line = b.line;
+    let a_font = a.font;
+    let b_font = b.font;
+    let always = mix_always(a_always, b_always, k);
+    let places = mix_places(a_places, b_places, k);
+    let clips = mix_clips(a_clips, b_clips, k);
+    let sizes = mix_sizes(a_sizes, b_sizes, k);
+    let colors = mix_colors(a_colors, b_colors, k);
+    let alphas = mix_alphas(a_alphas, b_alphas, k);
+    let line = mix_line(a_line, b_line, k);
+    let font = mix_font(a_font, b_font, k);
+    RenderState {
+        always,
+        places,
+        clips,
+        sizes,
+        colors,
+        alphas,
+        line,
+        font,
+    }
+}
