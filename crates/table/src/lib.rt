@@ -268,3 +268,99 @@ pub fn in_range(r: Record) -> bool
         _ => false,
     }
 }
+
+// ---- the table
+
+// Whether a record is not at fault itself, with `left` records behind it and `deep` more levels of T allowed.
+fn stands(r: Record, left: usize, deep: usize) -> bool
+    ensures { λ v. ⌜ v ≡ standsOf left deep r ⌝ }
+{
+    let kind = r.kind;
+    if kind == 49 {
+        let n = r.w5 as usize;
+        return scan::both(in_range(r), scan::both(0 < deep, n <= left));
+    }
+    scan::both(in_range(r), true)
+}
+
+// The first at fault of `count` records from `from` on, with `deep` more levels of T allowed: those inside a T, then those behind it.
+fn fault(table: &[u32], from: usize, count: usize, deep: usize) -> Checked
+    requires { ⌜ Inside (now table) from count ⌝ }
+    ensures { λ r. ⌜ r ≡ faultOf deep from (part (now (table .entry)) from count) ⌝ }
+{
+    let mut at = from;
+    let mut left = count;
+    while 0 < left {
+        let r = record_at(table, at);
+        if !stands(r, left - 1, deep) {
+            return Checked::Bad(Refusal::TableMalformed(at));
+        }
+        let kind = r.kind;
+        at += 1;
+        left -= 1;
+        if kind == 49 {
+            let n = r.w5 as usize;
+            let inner = fault(table, at, n, deep - 1);
+            if let Checked::Bad(x) = inner {
+                return Checked::Bad(x);
+            }
+            at += n;
+            left -= n;
+        }
+    }
+    Checked::Good
+}
+
+// The excess over 1,024 records, or a broken one behind the whole ones.
+fn excess(table: &[u32]) -> Checked
+    ensures { λ r. ⌜ r ≡ excessOf (now (table .entry)) ⌝ }
+{
+    let places = table.len() / 8;
+    if places > 1024 {
+        return Checked::Bad(Refusal::TableMalformed(1024));
+    }
+    if table.len() % 8 == 0 {
+        return Checked::Good;
+    }
+    Checked::Bad(Refusal::TableMalformed(places))
+}
+
+// ---- the grounds
+
+// Ground 5.
+pub fn check_table(table: &[u32]) -> Checked
+    ensures { λ r. ⌜ r ≡ tableGround (now (table .entry)) ⌝ }
+{
+    let found = fault(table, 0, scan::least(table.len() / 8, 1024), 8);
+    match found {
+        Checked::Good => excess(table),
+        Checked::Bad(x) => Checked::Bad(x),
+    }
+}
+
+fn in_time(z: i32) -> bool
+    ensures { λ v. ⌜ v ≡ inTime z ⌝ }
+{
+    scan::both(-1000000000 <= z, z <= 1000000000)
+}
+
+// Ground 6.
+pub fn check_times(t: i32, dur: i32) -> Checked
+    ensures { λ r. ⌜ r ≡ timeGround t dur ⌝ }
+{
+    if scan::both(in_time(t), in_time(dur)) {
+        return Checked::Good;
+    }
+    Checked::Bad(Refusal::TimeOutOfRange)
+}
+
+// Grounds 5 and 6.
+pub fn check_call(table: &[u32], t: i32, dur: i32) -> Checked
+    ensures { λ r. ⌜ r ≡ callGround (now (table .entry)) t dur ⌝ }
+{
+    let found = check_table(table);
+    match found {
+        Checked::Good => check_times(t, dur),
+        Checked::Bad(x) => Checked::Bad(x),
+    }
+}
