@@ -40,22 +40,23 @@ turns (suc n) (suc m) (suc d) i (r ∷ l) h g =
       turns n m (suc d) (i + 1 + holds r) (drop (holds r) l) (omega (arith, length-drop (holds r) l)) (omega (arith, length-drop (holds r) l)),
     )
 
--- what a record that is not at fault shows, by its kind
-abbrev own : ℕ → ℕ → Record → Bool
-own left d r = pick (eqb (r .kind) tKind) (both (ltb 0 d) (leb (holds r) left)) true
-
+-- what a record that is not at fault shows
 both-true : (a b : Bool) → both a b ≡ true → (a ≡ true) × (b ≡ true)
 both-true true b e = (refl, e)
 both-true false b e = absurd (true≢false (sym e))
 
 pub t-stands : (left d : ℕ) (r : Record) → stands left d r ≡ true → r .kind ≡ tKind → (0 < d) × (holds r ≤ left)
 t-stands left d r e h =
-    let f = both-true (inRange r) (own left d r) e .1 in
-    let g = both-true (ltb 0 d) (leb (holds r) left) (rw (eq-eqb (r .kind) tKind h) at f) in
+    let f = both-true (inRange r) (both (ltb 0 d) (leb (holds r) left)) (rw (eq-eqb (r .kind) tKind h) at e) in
+    let g = both-true (ltb 0 d) (leb (holds r) left) (f .1) in
     (ltb-true 0 d (g .0), leb-true (holds r) left (g .1))
 
 in-range : (left d : ℕ) (r : Record) → stands left d r ≡ true → inRange r ≡ true
-in-range left d r e = both-true (inRange r) (own left d r) e .0
+in-range left d r e = go (eqb (r .kind) tKind) e
+  where
+    go : (b : Bool) → pick b (both (inRange r) (both (ltb 0 d) (leb (holds r) left))) (inRange r) ≡ true → inRange r ≡ true
+    go true e = both-true (inRange r) (both (ltb 0 d) (leb (holds r) left)) e .0
+    go false e = e
 
 -- ---- one record and those behind it
 
@@ -63,13 +64,13 @@ fault-bad : (d i : ℕ) (r : Record) (l : List Record) → stands (length l) d r
 unfolding faultIn
 fault-bad zero i r l e = go (inRange r) (eqb (r .kind) tKind) e
   where
-    go : (a b : Bool) → both a (pick b (both (ltb 0 zero) (leb (holds r) (length l))) true) ≡ false → pick a (pick b (Bad (TableMalformed i)) (faultIn (length l) zero (i + 1) l)) (Bad (TableMalformed i)) ≡ Bad (TableMalformed i)
+    go : (a b : Bool) → pick b (both a (both (ltb 0 zero) (leb (holds r) (length l)))) a ≡ false → pick a (pick b (Bad (TableMalformed i)) (faultIn (length l) zero (i + 1) l)) (Bad (TableMalformed i)) ≡ Bad (TableMalformed i)
     go true true e = refl
     go true false e = absurd (true≢false e)
     go false b e = refl
 fault-bad (suc d) i r l e = go (inRange r) (eqb (r .kind) tKind) (leb (holds r) (length l)) (rw (lt-ltb 0 (suc d) (omega arith)) at e)
   where
-    go : (a b c : Bool) → both a (pick b (pick true c false) true) ≡ false
+    go : (a b c : Bool) → pick b (both a (pick true c false)) a ≡ false
         → pick a (pick b (pick c (first (faultIn (length l) d (i + 1) (take (holds r) l)) (faultIn (length l) (suc d) (i + 1 + holds r) (drop (holds r) l))) (Bad (TableMalformed i))) (faultIn (length l) (suc d) (i + 1) l)) (Bad (TableMalformed i)) ≡ Bad (TableMalformed i)
     go true true true e = absurd (true≢false e)
     go true true false e = refl

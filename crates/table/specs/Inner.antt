@@ -42,4 +42,4 @@ stylePart f o n = pick (eqb f 0) (both (eqb o 0) (eqb n 0)) (both (partFits o n)
 
 -- a record is not at fault by its own words, with so many records behind it and d more levels of T allowed
 abbrev pub stands : ℕ → ℕ → Record → Bool
-stands left d r = both (inRange r) (pick (eqb (r .kind) tKind) (both (ltb 0 d) (leb (holds r) left)) true)
+stands left d r = pick (eqb (r .kind) tKind) (both (inRange r) (both (ltb 0 d) (leb (holds r) left))) (inRange r)

@@ -280,7 +280,7 @@ fn stands(r: Record, left: usize, deep: usize) -> bool
         let n = r.w5 as usize;
         return scan::both(in_range(r), scan::both(0 < deep, n <= left));
     }
-    scan::both(in_range(r), true)
+    in_range(r)
 }
 
 // The first at fault of `count` records from `from` on, with `deep` more levels of T allowed: those inside a T, then those behind it.

@@ -16,28 +16,13 @@ both-requires-2 : tie.Need-both-requires-2
 both-requires-2 c κs = search needs
 
 returns : tie.Need-returns
-returns c =
-    let a = c .before .before .in-range .ensures in
-    rw (eq-eqb _ _ (c .before .before .before .before .if1 .taken)) (cc)
+returns c = rw (eq-eqb _ _ (c .before .before .before .before .if1 .taken)) (cc)
 
 in-range-requires-2 : tie.Need-in-range-requires-2
 in-range-requires-2 c κs = search needs
 
-both-requires-3 : tie.Need-both-requires-3
-both-requires-3 c κs = search needs
-
 returns-2 : tie.Need-returns-2
-returns-2 c = rw (ne-eqb _ _ (c .before .before .if1 .left)) (cc)
+returns-2 c = rw (ne-eqb _ _ (c .before .if1 .left)) (c .in-range2 .ensures)
 
 pub stands-spec : {M : Type 1} → statement M
-stands-spec =
-    tie.close
-    (tie.spec
-    cast-n
-    in-range-requires
-    both-requires
-    both-requires-2
-    returns
-    in-range-requires-2
-    both-requires-3
-    returns-2)
+stands-spec = tie.close (tie.spec cast-n in-range-requires both-requires both-requires-2 returns in-range-requires-2 returns-2)
