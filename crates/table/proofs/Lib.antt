@@ -1,0 +1,4 @@
+pub mod ByKind
+pub mod Slices
+pub mod Faults
+pub mod Grounds
