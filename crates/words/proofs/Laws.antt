@@ -5,10 +5,10 @@ use Prim.Native.Nat.{ℕ, suc, _+_, _≤_, _<_}
 use native.Mathlib.Numerals.{add-one}
 use native.Mathlib.Nat.{add-suc}
 use native.Mathlib.Omega.{arith}
-use lib.ListN.{length, set, drop, length-set, length-append}
+use lib.ListN.{length, set, length-append}
 use lib.Seq.{sets, sets-eq}
 use borrow.Author.Tests.{le-leb, lt-leb}
-use Rattle.words.specs.Words.{optF32, optPair, optRect, optRgb, optU8, optU16, optI32, optBool, optPart, optName, optReset, stateWords, written}
+use Rattle.words.specs.Words.{optF32, optPair, optRect, optRgb, optU8, optU16, optI32, optBool, optPart, optName, optReset, wordsFrom0, wordsFrom18, wordsFrom44, wordsFrom70, stateWords, written}
 use Rattle.state.specs.declared.OptF32.{OptF32}
 use Rattle.state.specs.declared.OptPair.{OptPair}
 use Rattle.state.specs.declared.OptRect.{OptRect}
@@ -55,9 +55,9 @@ first ws k w e = record { is = e; wide = omega arith }
 pub next : {t : List ℕ} {i n : ℕ} {a u v : List ℕ} (b : List ℕ) (k : ℕ) → length b ≡ k → Run t i a n u → v ≡ putAt u n b → Run t i (a ++ b) (n + k) v
 unfolding putAt
 next {t} {i} {n} {a} {u} {v} b k w r e = record {
-    is = e ∙ rw (r .is, ← r .wide) (sym (sets-append a b t i));
-    wide = omega (arith, length-append a b, r .wide)
-  }
+  is = e ∙ rw (r .is, ← r .wide) (sym (sets-append a b t i));
+  wide = omega (arith, length-append a b, r .wide);
+}
 
 -- ---- how many words a field has
 
@@ -117,10 +117,21 @@ wide-optReset OptReset.None = refl
 wide-optReset OptReset.Plain = refl
 wide-optReset (OptReset.Named p) = refl
 
+pub wide-from0 : (st : RenderState) → length (wordsFrom0 st) ≡ 18
+wide-from0 st = simp (length-append, wide-optPair, wide-optRect, wide-optPart)
+
+pub wide-from18 : (st : RenderState) → length (wordsFrom18 st) ≡ 26
+wide-from18 st = simp (length-append, wide-optRgb, wide-optF32, wide-optPair, wide-optRect, wide-optPart)
+
+pub wide-from44 : (st : RenderState) → length (wordsFrom44 st) ≡ 26
+wide-from44 st = simp (length-append, wide-optRgb, wide-optU8, wide-optF32)
+
+pub wide-from70 : (st : RenderState) → length (wordsFrom70 st) ≡ 22
+wide-from70 st = simp (length-append, wide-optName, wide-optU8, wide-optU16, wide-optReset, wide-optBool, wide-optI32)
+
 pub wide-state : (st : RenderState) → length (stateWords st) ≡ 92
 unfolding stateWords
-wide-state st =
-    simp (length-append, wide-optF32, wide-optPair, wide-optRect, wide-optRgb, wide-optU8, wide-optU16, wide-optI32, wide-optBool, wide-optPart, wide-optName, wide-optReset)
+wide-state st = simp (length-append, wide-optF32, wide-optPair, wide-optRect, wide-optRgb, wide-optU8, wide-optU16, wide-optI32, wide-optBool, wide-optPart, wide-optName, wide-optReset)
 
 -- at the front, with room for all
 pub written-room : (t ws u : List ℕ) → length ws ≤ length t → u ≡ putAt t 0 ws → u ≡ written t ws

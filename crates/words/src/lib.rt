@@ -15,8 +15,8 @@ use state::OptPart;
 use state::OptRect;
 use state::OptReset;
 use state::OptRgb;
-use state::OptU16;
 use state::OptU8;
+use state::OptU16;
 use state::Pair;
 use state::RenderState;
 
@@ -127,7 +127,15 @@ fn put_opt_rect(out: &mut [u32], at: usize, o: OptRect)
 {
     match o {
         OptRect::None => put5(out, at, 0, 0, 0, 0, 0),
-        OptRect::Some(r) => put5(out, at, 1, float::word_of_f32(r.x1), float::word_of_f32(r.y1), float::word_of_f32(r.x2), float::word_of_f32(r.y2)),
+        OptRect::Some(r) => put5(
+            out,
+            at,
+            1,
+            float::word_of_f32(r.x1),
+            float::word_of_f32(r.y1),
+            float::word_of_f32(r.x2),
+            float::word_of_f32(r.y2),
+        ),
     }
 }
 
@@ -200,7 +208,15 @@ fn put_opt_name(out: &mut [u32], at: usize, o: OptName)
         OptName::Some(n) => {
             let letters = n.letters;
             let parameter = n.parameter;
-            put5(out, at, 1, letters.offset, letters.size, parameter.offset, parameter.size);
+            put5(
+                out,
+                at,
+                1,
+                letters.offset,
+                letters.size,
+                parameter.offset,
+                parameter.size,
+            );
         }
     }
 }

@@ -5,13 +5,6 @@ use Rattle.words.proofs.Laws.{first, next, wide-optPair, wide-optPart, 
 use borrow.Author.Needs.{needs}
 use Rattle.words.proofs.put_from_0.Statement.{statement}
 use Rattle.words.proofs.put_from_0.Tie as tie
-use Rattle.words.proofs.put_from_0.Reads as reads
-use Rattle.words.proofs.put_from_0.Lts as lts
-use Rattle.words.proofs.put_f32.Reads as put-f32-reads
-use Rattle.words.proofs.put_opt_pair.Reads as put-opt-pair-reads
-use Rattle.words.proofs.put_opt_part.Reads as put-opt-part-reads
-use Rattle.words.proofs.put_opt_rect.Reads as put-opt-rect-reads
-use Rattle.words.proofs.put_pair.Reads as put-pair-reads
 
 put-f32-requires : tie.Need-put-f32-requires
 put-f32-requires c κs = search needs

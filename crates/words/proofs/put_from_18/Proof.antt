@@ -5,16 +5,6 @@ use Rattle.words.proofs.Laws.{first, next, wide-optF32, wide-optPair, w
 use borrow.Author.Needs.{needs}
 use Rattle.words.proofs.put_from_18.Statement.{statement}
 use Rattle.words.proofs.put_from_18.Tie as tie
-use Rattle.words.proofs.put_from_18.Reads as reads
-use Rattle.words.proofs.put_from_18.Lts as lts
-use Rattle.words.proofs.byte.Reads as byte-reads
-use Rattle.words.proofs.put1.Reads as put1-reads
-use Rattle.words.proofs.put_opt_f32.Reads as put-opt-f32-reads
-use Rattle.words.proofs.put_opt_pair.Reads as put-opt-pair-reads
-use Rattle.words.proofs.put_opt_part.Reads as put-opt-part-reads
-use Rattle.words.proofs.put_opt_rect.Reads as put-opt-rect-reads
-use Rattle.words.proofs.put_opt_rgb.Reads as put-opt-rgb-reads
-use Rattle.words.proofs.put_pair.Reads as put-pair-reads
 
 put-opt-rgb-requires : tie.Need-put-opt-rgb-requires
 put-opt-rgb-requires c κs = search needs

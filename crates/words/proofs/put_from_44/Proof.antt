@@ -5,11 +5,6 @@ use Rattle.words.proofs.Laws.{first, next, wide-optF32, wide-optRgb, wi
 use borrow.Author.Needs.{needs}
 use Rattle.words.proofs.put_from_44.Statement.{statement}
 use Rattle.words.proofs.put_from_44.Tie as tie
-use Rattle.words.proofs.put_from_44.Reads as reads
-use Rattle.words.proofs.put_from_44.Lts as lts
-use Rattle.words.proofs.put_opt_f32.Reads as put-opt-f32-reads
-use Rattle.words.proofs.put_opt_rgb.Reads as put-opt-rgb-reads
-use Rattle.words.proofs.put_opt_u8.Reads as put-opt-u8-reads
 
 put-opt-rgb-requires : tie.Need-put-opt-rgb-requires
 put-opt-rgb-requires c κs = search needs

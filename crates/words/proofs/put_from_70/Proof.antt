@@ -5,14 +5,6 @@ use Rattle.words.proofs.Laws.{first, next, wide-optBool, wide-optI32, w
 use borrow.Author.Needs.{needs}
 use Rattle.words.proofs.put_from_70.Statement.{statement}
 use Rattle.words.proofs.put_from_70.Tie as tie
-use Rattle.words.proofs.put_from_70.Reads as reads
-use Rattle.words.proofs.put_from_70.Lts as lts
-use Rattle.words.proofs.put_opt_bool.Reads as put-opt-bool-reads
-use Rattle.words.proofs.put_opt_i32.Reads as put-opt-i32-reads
-use Rattle.words.proofs.put_opt_name.Reads as put-opt-name-reads
-use Rattle.words.proofs.put_opt_reset.Reads as put-opt-reset-reads
-use Rattle.words.proofs.put_opt_u16.Reads as put-opt-u16-reads
-use Rattle.words.proofs.put_opt_u8.Reads as put-opt-u8-reads
 
 put-opt-name-requires : tie.Need-put-opt-name-requires
 put-opt-name-requires c κs = search needs

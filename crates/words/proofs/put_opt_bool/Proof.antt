@@ -2,10 +2,6 @@ use Rattle.words.specs.Words.{optBool}
 use borrow.Author.Needs.{needs}
 use Rattle.words.proofs.put_opt_bool.Statement.{statement}
 use Rattle.words.proofs.put_opt_bool.Tie as tie
-use Rattle.words.proofs.put_opt_bool.Reads as reads
-use Rattle.words.proofs.put_opt_bool.Lts as lts
-use Rattle.words.proofs.flag.Reads as flag-reads
-use Rattle.words.proofs.put2.Reads as put2-reads
 
 enum-told : tie.Need-enum-told
 enum-told c = search needs

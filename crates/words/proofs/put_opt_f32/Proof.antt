@@ -2,10 +2,6 @@ use Rattle.words.specs.Words.{optF32}
 use borrow.Author.Needs.{needs}
 use Rattle.words.proofs.put_opt_f32.Statement.{statement}
 use Rattle.words.proofs.put_opt_f32.Tie as tie
-use Rattle.words.proofs.put_opt_f32.Reads as reads
-use Rattle.words.proofs.put_opt_f32.Lts as lts
-use Rattle.float.proofs.word_of_f32.Reads as word-of-f32-reads
-use Rattle.words.proofs.put2.Reads as put2-reads
 
 enum-told : tie.Need-enum-told
 enum-told c = search needs

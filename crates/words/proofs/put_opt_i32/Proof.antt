@@ -1,12 +1,9 @@
+use mir.Syntax.{w32}
 use mir.Facts.{toZ-ofZ}
 use Rattle.words.specs.Words.{optI32}
 use borrow.Author.Needs.{needs}
 use Rattle.words.proofs.put_opt_i32.Statement.{statement}
 use Rattle.words.proofs.put_opt_i32.Tie as tie
-use Rattle.words.proofs.put_opt_i32.Reads as reads
-use Rattle.words.proofs.put_opt_i32.Lts as lts
-use Rattle.float.proofs.to_word.Reads as to-word-reads
-use Rattle.words.proofs.put2.Reads as put2-reads
 
 enum-told : tie.Need-enum-told
 enum-told c = search needs
@@ -35,7 +32,10 @@ same-length-2 c = search needs
 
 returns-2 : tie.Need-returns-2
 unfolding optI32
-returns-2 c = let k = c .before .before .before .before .before .known-told .given in let f = c .before .before .before .before .before .before .before .before .before .fits in let o = c .before .before .before .before .before .before .o .given in ?
+returns-2 c =
+    let o = c .before .before .before .before .before .before .o .given in
+    let z = toZ-ofZ {w = w32} {z = o .0 .0} (record { sfits = c .before .before .before .before .before .known-told .given .0 .1 }) in
+    rw (o .1, ← z, ← c .before .before .before .to-word .ensures) (c .before .before .put22 .ensures)
 
 pub put-opt-i32-spec : {M : Type 1} → statement M
 put-opt-i32-spec =

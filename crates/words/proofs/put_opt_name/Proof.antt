@@ -2,9 +2,6 @@ use Rattle.words.specs.Words.{optName}
 use borrow.Author.Needs.{needs}
 use Rattle.words.proofs.put_opt_name.Statement.{statement}
 use Rattle.words.proofs.put_opt_name.Tie as tie
-use Rattle.words.proofs.put_opt_name.Reads as reads
-use Rattle.words.proofs.put_opt_name.Lts as lts
-use Rattle.words.proofs.put5.Reads as put5-reads
 
 enum-told : tie.Need-enum-told
 enum-told c = search needs

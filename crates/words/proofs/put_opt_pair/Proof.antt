@@ -2,10 +2,6 @@ use Rattle.words.specs.Words.{optPair}
 use borrow.Author.Needs.{needs}
 use Rattle.words.proofs.put_opt_pair.Statement.{statement}
 use Rattle.words.proofs.put_opt_pair.Tie as tie
-use Rattle.words.proofs.put_opt_pair.Reads as reads
-use Rattle.words.proofs.put_opt_pair.Lts as lts
-use Rattle.float.proofs.word_of_f32.Reads as word-of-f32-reads
-use Rattle.words.proofs.put3.Reads as put3-reads
 
 enum-told : tie.Need-enum-told
 enum-told c = search needs

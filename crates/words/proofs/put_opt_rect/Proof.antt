@@ -2,10 +2,6 @@ use Rattle.words.specs.Words.{optRect}
 use borrow.Author.Needs.{needs}
 use Rattle.words.proofs.put_opt_rect.Statement.{statement}
 use Rattle.words.proofs.put_opt_rect.Tie as tie
-use Rattle.words.proofs.put_opt_rect.Reads as reads
-use Rattle.words.proofs.put_opt_rect.Lts as lts
-use Rattle.float.proofs.word_of_f32.Reads as word-of-f32-reads
-use Rattle.words.proofs.put5.Reads as put5-reads
 
 enum-told : tie.Need-enum-told
 enum-told c = search needs

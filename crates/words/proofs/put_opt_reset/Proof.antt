@@ -2,9 +2,6 @@ use Rattle.words.specs.Words.{optReset}
 use borrow.Author.Needs.{needs}
 use Rattle.words.proofs.put_opt_reset.Statement.{statement}
 use Rattle.words.proofs.put_opt_reset.Tie as tie
-use Rattle.words.proofs.put_opt_reset.Reads as reads
-use Rattle.words.proofs.put_opt_reset.Lts as lts
-use Rattle.words.proofs.put3.Reads as put3-reads
 
 enum-told : tie.Need-enum-told
 enum-told c = search needs

@@ -2,10 +2,6 @@ use Rattle.words.specs.Words.{optRgb}
 use borrow.Author.Needs.{needs}
 use Rattle.words.proofs.put_opt_rgb.Statement.{statement}
 use Rattle.words.proofs.put_opt_rgb.Tie as tie
-use Rattle.words.proofs.put_opt_rgb.Reads as reads
-use Rattle.words.proofs.put_opt_rgb.Lts as lts
-use Rattle.words.proofs.byte.Reads as byte-reads
-use Rattle.words.proofs.put4.Reads as put4-reads
 
 enum-told : tie.Need-enum-told
 enum-told c = search needs

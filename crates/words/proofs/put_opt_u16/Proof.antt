@@ -2,10 +2,6 @@ use Rattle.words.specs.Words.{optU16}
 use borrow.Author.Needs.{needs}
 use Rattle.words.proofs.put_opt_u16.Statement.{statement}
 use Rattle.words.proofs.put_opt_u16.Tie as tie
-use Rattle.words.proofs.put_opt_u16.Reads as reads
-use Rattle.words.proofs.put_opt_u16.Lts as lts
-use Rattle.words.proofs.half.Reads as half-reads
-use Rattle.words.proofs.put2.Reads as put2-reads
 
 enum-told : tie.Need-enum-told
 enum-told c = search needs

@@ -2,10 +2,6 @@ use Rattle.words.specs.Words.{optU8}
 use borrow.Author.Needs.{needs}
 use Rattle.words.proofs.put_opt_u8.Statement.{statement}
 use Rattle.words.proofs.put_opt_u8.Tie as tie
-use Rattle.words.proofs.put_opt_u8.Reads as reads
-use Rattle.words.proofs.put_opt_u8.Lts as lts
-use Rattle.words.proofs.byte.Reads as byte-reads
-use Rattle.words.proofs.put2.Reads as put2-reads
 
 enum-told : tie.Need-enum-told
 enum-told c = search needs
