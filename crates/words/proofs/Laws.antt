@@ -1,0 +1,146 @@
+-- Words stored one after the other, joined.
+use mathlib.Core.Path.{_≡_, refl, sym, ap, _∙_}
+use mathlib.Core.List.{List, [], _∷_, _++_}
+use Prim.Native.Nat.{ℕ, suc, _+_, _≤_, _<_}
+use native.Mathlib.Numerals.{add-one}
+use native.Mathlib.Nat.{add-suc}
+use native.Mathlib.Omega.{arith}
+use lib.ListN.{length, set, length-append}
+use lib.Seq.{sets, sets-eq}
+use borrow.Author.Tests.{le-leb, lt-leb}
+use Rattle.words.specs.Words.{optF32, optPair, optRect, optRgb, optU8, optU16, optI32, optBool, optPart, optName, optReset, wordsFrom0, wordsFrom18, wordsFrom44, wordsFrom70, stateWords, written}
+use Rattle.state.specs.declared.OptF32.{OptF32}
+use Rattle.state.specs.declared.OptPair.{OptPair}
+use Rattle.state.specs.declared.OptRect.{OptRect}
+use Rattle.state.specs.declared.OptRgb.{OptRgb}
+use Rattle.state.specs.declared.OptU8.{OptU8}
+use Rattle.state.specs.declared.OptU16.{OptU16}
+use Rattle.state.specs.declared.OptI32.{OptI32}
+use Rattle.state.specs.declared.OptBool.{OptBool}
+use Rattle.state.specs.declared.OptPart.{OptPart}
+use Rattle.state.specs.declared.OptName.{OptName}
+use Rattle.state.specs.declared.OptReset.{OptReset}
+use Rattle.state.specs.declared.RenderState.{RenderState}
+use Rattle.words.specs.Inner.{putAt}
+
+-- the words stored at at + k, at + k + 1 ..
+abbrev pub stores : List ℕ → ℕ → ℕ → List ℕ → List ℕ
+stores t at k [] = t
+stores t at k (w ∷ ws) = stores (set t (at + k) w) at (suc k) ws
+
+stores-is : (ws t : List ℕ) (at k : ℕ) → stores t at k ws ≡ sets t (at + k) ws
+stores-is [] t at k = refl
+stores-is (w ∷ ws) t at k = stores-is ws (set t (at + k) w) at (suc k) ∙ ap (λ (n : ℕ). sets (set t (at + k) w) n ws) (add-suc at k)
+
+-- straight-line code stores at at, at + 1 ..
+pub stored : (t : List ℕ) (at w : ℕ) (ws : List ℕ) → stores (set t at w) at 1 ws ≡ putAt t at (w ∷ ws)
+unfolding putAt
+stored t at w ws = stores-is ws (set t at w) at 1 ∙ ap (λ (n : ℕ). sets (set t at w) n ws) (add-one at)
+
+sets-append : (a b t : List ℕ) (at : ℕ) → sets t at (a ++ b) ≡ sets (sets t at a) (at + length a) b
+sets-append [] b t at = let e : at + 0 ≡ at = omega arith in rw e
+sets-append (w ∷ a) b t at =
+    let e : at + suc (length a) ≡ suc at + length a = omega arith in
+    rw (e, sets-append a b (set t at w) (suc at))
+
+-- words stored from i up to n
+pub record Run (t : List ℕ) (i : ℕ) (ws : List ℕ) (n : ℕ) (u : List ℕ) : Type 0 where
+  pub is : u ≡ putAt t i ws
+  pub wide : i + length ws ≡ n
+
+pub first : {t : List ℕ} {i : ℕ} (ws : List ℕ) {u : List ℕ} (k : ℕ) → length ws ≡ k → u ≡ putAt t i ws → Run t i ws (i + k) u
+first ws k w e = record { is = e; wide = omega arith }
+
+-- the next words follow
+pub next : {t : List ℕ} {i n : ℕ} {a u v : List ℕ} (b : List ℕ) (k : ℕ) → length b ≡ k → Run t i a n u → v ≡ putAt u n b → Run t i (a ++ b) (n + k) v
+unfolding putAt
+next {t} {i} {n} {a} {u} {v} b k w r e = record {
+  is = e ∙ rw (r .is, ← r .wide) (sym (sets-append a b t i));
+  wide = omega (arith, length-append a b, r .wide);
+}
+
+-- ---- how many words a field has
+
+pub wide-optF32 : (o : OptF32) → length (optF32 o) ≡ 2
+unfolding optF32
+wide-optF32 OptF32.None = refl
+wide-optF32 (OptF32.Some x) = refl
+
+pub wide-optPair : (o : OptPair) → length (optPair o) ≡ 3
+unfolding optPair
+wide-optPair OptPair.None = refl
+wide-optPair (OptPair.Some x) = refl
+
+pub wide-optRect : (o : OptRect) → length (optRect o) ≡ 5
+unfolding optRect
+wide-optRect OptRect.None = refl
+wide-optRect (OptRect.Some x) = refl
+
+pub wide-optRgb : (o : OptRgb) → length (optRgb o) ≡ 4
+unfolding optRgb
+wide-optRgb OptRgb.None = refl
+wide-optRgb (OptRgb.Some x) = refl
+
+pub wide-optU8 : (o : OptU8) → length (optU8 o) ≡ 2
+unfolding optU8
+wide-optU8 OptU8.None = refl
+wide-optU8 (OptU8.Some x) = refl
+
+pub wide-optU16 : (o : OptU16) → length (optU16 o) ≡ 2
+unfolding optU16
+wide-optU16 OptU16.None = refl
+wide-optU16 (OptU16.Some x) = refl
+
+pub wide-optI32 : (o : OptI32) → length (optI32 o) ≡ 2
+unfolding optI32
+wide-optI32 OptI32.None = refl
+wide-optI32 (OptI32.Some x) = refl
+
+pub wide-optBool : (o : OptBool) → length (optBool o) ≡ 2
+unfolding optBool
+wide-optBool OptBool.None = refl
+wide-optBool (OptBool.Some x) = refl
+
+pub wide-optPart : (o : OptPart) → length (optPart o) ≡ 3
+unfolding optPart
+wide-optPart OptPart.None = refl
+wide-optPart (OptPart.Some x) = refl
+
+pub wide-optName : (o : OptName) → length (optName o) ≡ 5
+unfolding optName
+wide-optName OptName.None = refl
+wide-optName (OptName.Some x) = refl
+
+pub wide-optReset : (o : OptReset) → length (optReset o) ≡ 3
+unfolding optReset
+wide-optReset OptReset.None = refl
+wide-optReset OptReset.Plain = refl
+wide-optReset (OptReset.Named p) = refl
+
+pub wide-from0 : (st : RenderState) → length (wordsFrom0 st) ≡ 18
+wide-from0 st = simp (length-append, wide-optPair, wide-optRect, wide-optPart)
+
+pub wide-from18 : (st : RenderState) → length (wordsFrom18 st) ≡ 26
+wide-from18 st = simp (length-append, wide-optRgb, wide-optF32, wide-optPair, wide-optRect, wide-optPart)
+
+pub wide-from44 : (st : RenderState) → length (wordsFrom44 st) ≡ 26
+wide-from44 st = simp (length-append, wide-optRgb, wide-optU8, wide-optF32)
+
+pub wide-from70 : (st : RenderState) → length (wordsFrom70 st) ≡ 22
+wide-from70 st = simp (length-append, wide-optName, wide-optU8, wide-optU16, wide-optReset, wide-optBool, wide-optI32)
+
+pub wide-state : (st : RenderState) → length (stateWords st) ≡ 92
+unfolding stateWords
+wide-state st = simp (length-append, wide-optF32, wide-optPair, wide-optRect, wide-optRgb, wide-optU8, wide-optU16, wide-optI32, wide-optBool, wide-optPart, wide-optName, wide-optReset)
+
+-- at the front, with room for all
+pub written-room : (t ws u : List ℕ) → length ws ≤ length t → u ≡ putAt t 0 ws → u ≡ written t ws
+unfolding putAt written
+written-room t ws u h e =
+    let l : 0 + length ws ≤ length t = omega arith in
+    let z : 0 + length ws ≡ length ws = omega arith in
+    e ∙ sets-eq ws t 0 l ∙ rw (z, le-leb (length ws) (length t) h)
+
+pub written-none : (t ws : List ℕ) → length t < length ws → t ≡ written t ws
+unfolding written
+written-none t ws h = rw (lt-leb (length ws) (length t) h)

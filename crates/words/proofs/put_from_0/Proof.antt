@@ -1,0 +1,67 @@
+use mathlib.Core.Path.{refl}
+use native.Mathlib.Omega.{arith}
+use Rattle.words.specs.Words.{f32, optPair, optPart, optRect, pair}
+use Rattle.words.proofs.Laws.{first, next, wide-optPair, wide-optPart, wide-optRect}
+use borrow.Author.Needs.{needs}
+use Rattle.words.proofs.put_from_0.Statement.{statement}
+use Rattle.words.proofs.put_from_0.Tie as tie
+
+put-f32-requires : tie.Need-put-f32-requires
+put-f32-requires c κs = search needs
+
+put-f32-requires-2 : tie.Need-put-f32-requires-2
+put-f32-requires-2 c κs = search needs
+
+put-f32-requires-3 : tie.Need-put-f32-requires-3
+put-f32-requires-3 c κs = search needs
+
+put-f32-requires-4 : tie.Need-put-f32-requires-4
+put-f32-requires-4 c κs = search needs
+
+put-pair-requires : tie.Need-put-pair-requires
+put-pair-requires c κs = search needs
+
+put-opt-pair-requires : tie.Need-put-opt-pair-requires
+put-opt-pair-requires c κs = search needs
+
+put-f32-requires-5 : tie.Need-put-f32-requires-5
+put-f32-requires-5 c κs = search needs
+
+put-opt-rect-requires : tie.Need-put-opt-rect-requires
+put-opt-rect-requires c κs = search needs
+
+put-opt-part-requires : tie.Need-put-opt-part-requires
+put-opt-part-requires c κs = omega (arith, c .before .before .before .before .before .before .before .before .before .before .before .before .before .before .before .before .before .before .before .before .before .before .before .before .before .before .before .before .before .before .before .before .before .before .before .before .before .before .before .pre, c .before .before .before .put-opt-rect .kept .0, c .before .before .before .before .before .before .before .put-f325 .kept .0, c .before .before .before .before .before .before .before .before .before .before .before .put-opt-pair .kept .0, c .before .before .before .before .before .before .before .before .before .before .before .before .before .before .before .put-pair .kept .0, c .before .before .before .before .before .before .before .before .before .before .before .before .before .before .before .before .before .before .before .before .put-f324 .kept .0, c .before .before .before .before .before .before .before .before .before .before .before .before .before .before .before .before .before .before .before .before .before .before .before .before .put-f323 .kept .0, c .before .before .before .before .before .before .before .before .before .before .before .before .before .before .before .before .before .before .before .before .before .before .before .before .before .before .before .before .put-f322 .kept .0, c .before .before .before .before .before .before .before .before .before .before .before .before .before .before .before .before .before .before .before .before .before .before .before .before .before .before .before .before .before .before .before .before .put-f32 .kept .0)
+
+same-length : tie.Need-same-length
+same-length c = omega (arith, c .before .before .before .before .before .before .before .before .before .before .before .before .before .before .before .before .before .before .before .before .before .before .before .before .before .before .before .before .before .before .before .before .before .before .before .before .before .before .before .before .before .before .pre, c .before .before .put-opt-part .kept .0, c .before .before .before .before .before .before .put-opt-rect .kept .0, c .before .before .before .before .before .before .before .before .before .before .put-f325 .kept .0, c .before .before .before .before .before .before .before .before .before .before .before .before .before .before .put-opt-pair .kept .0, c .before .before .before .before .before .before .before .before .before .before .before .before .before .before .before .before .before .before .put-pair .kept .0, c .before .before .before .before .before .before .before .before .before .before .before .before .before .before .before .before .before .before .before .before .before .before .before .put-f324 .kept .0, c .before .before .before .before .before .before .before .before .before .before .before .before .before .before .before .before .before .before .before .before .before .before .before .before .before .before .before .put-f323 .kept .0, c .before .before .before .before .before .before .before .before .before .before .before .before .before .before .before .before .before .before .before .before .before .before .before .before .before .before .before .before .before .before .before .put-f322 .kept .0, c .before .before .before .before .before .before .before .before .before .before .before .before .before .before .before .before .before .before .before .before .before .before .before .before .before .before .before .before .before .before .before .before .before .before .before .put-f32 .kept .0)
+
+returns : tie.Need-returns
+returns c =
+    let st = c .before .before .before .before .before .before .before .before .before .before .before .before .before .before .before .before .before .before .before .before .before .before .before .before .before .before .before .before .before .before .before .before .before .before .before .before .before .before .before .before .before .before .args .st in
+    let r0 = first (f32 (st .always .«alpha_mul»)) 1 refl (c .before .before .before .before .before .before .before .before .before .before .before .before .before .before .before .before .before .before .before .before .before .before .before .before .before .before .before .before .before .before .before .before .before .before .before .put-f32 .ensures) in
+    let r1 = next (f32 (st .always .«rotate_radians»)) 1 refl r0 (c .before .before .before .before .before .before .before .before .before .before .before .before .before .before .before .before .before .before .before .before .before .before .before .before .before .before .before .before .before .before .before .put-f322 .ensures) in
+    let r2 = next (f32 (st .always .«rotate_x_radians»)) 1 refl r1 (c .before .before .before .before .before .before .before .before .before .before .before .before .before .before .before .before .before .before .before .before .before .before .before .before .before .before .before .put-f323 .ensures) in
+    let r3 = next (f32 (st .always .«rotate_y_radians»)) 1 refl r2 (c .before .before .before .before .before .before .before .before .before .before .before .before .before .before .before .before .before .before .before .before .before .before .before .put-f324 .ensures) in
+    let r4 = next (pair (st .always .scale)) 2 refl r3 (c .before .before .before .before .before .before .before .before .before .before .before .before .before .before .before .before .before .before .put-pair .ensures) in
+    let r5 = next (optPair (st .places .translate)) 3 (wide-optPair (st .places .translate)) r4 (c .before .before .before .before .before .before .before .before .before .before .before .before .before .before .put-opt-pair .ensures) in
+    let r6 = next (f32 (st .always .«blur_sigma»)) 1 refl r5 (c .before .before .before .before .before .before .before .before .before .before .put-f325 .ensures) in
+    let r7 = next (optRect (st .clips .«clip_rect»)) 5 (wide-optRect (st .clips .«clip_rect»)) r6 (c .before .before .before .before .before .before .put-opt-rect .ensures) in
+    let r8 = next (optPart (st .line .«clip_drawing»)) 3 (wide-optPart (st .line .«clip_drawing»)) r7 (c .before .before .put-opt-part .ensures) in
+    r8 .is
+
+pub put-from-0-spec : {M : Type 1} → statement M
+put-from-0-spec =
+    tie.close
+    (tie.spec
+    put-f32-requires
+    put-f32-requires-2
+    put-f32-requires-3
+    put-f32-requires-4
+    put-pair-requires
+    put-opt-pair-requires
+    put-f32-requires-5
+    put-opt-rect-requires
+    put-opt-part-requires
+    same-length
+    returns)

@@ -1,0 +1,360 @@
+// A render state as the 92 words of the C interface.
+ghost use mathlib.Core.Path.{_≡_};
+ghost use mathlib.Core.List.{[], _∷_};
+ghost use Prim.Native.Nat.{_+_, _≤_};
+ghost use lib.ListN.{length};
+ghost use Rattle.words.specs.Words as Words;
+ghost use Rattle.words.specs.Words.{wordsFrom0, wordsFrom18, wordsFrom44, wordsFrom70, stateWords, written};
+ghost use Rattle.words.specs.Inner.{putAt};
+use state::OptBool;
+use state::OptF32;
+use state::OptI32;
+use state::OptName;
+use state::OptPair;
+use state::OptPart;
+use state::OptRect;
+use state::OptReset;
+use state::OptRgb;
+use state::OptU8;
+use state::OptU16;
+use state::Pair;
+use state::RenderState;
+
+fn byte(n: u8) -> u32
+    ensures { λ r. ⌜ r ≡ n ⌝ }
+{
+    n as u32
+}
+
+fn half(n: u16) -> u32
+    ensures { λ r. ⌜ r ≡ n ⌝ }
+{
+    n as u32
+}
+
+fn flag(b: bool) -> u32
+    ensures { λ r. ⌜ r ≡ Words.flag b ⌝ }
+{
+    if b { 1 } else { 0 }
+}
+
+// ---- words one after the other, from an index on
+
+fn put1(out: &mut [u32], at: usize, a: u32)
+    requires { ⌜ at + 1 ≤ length (now out) ⌝ }
+    ensures { λ _. ⌜ now (out .exit) ≡ putAt (now (out .entry)) at (a ∷ []) ⌝ }
+{
+    out[at] = a;
+}
+
+fn put2(out: &mut [u32], at: usize, a: u32, b: u32)
+    requires { ⌜ at + 2 ≤ length (now out) ⌝ }
+    ensures { λ _. ⌜ now (out .exit) ≡ putAt (now (out .entry)) at (a ∷ b ∷ []) ⌝ }
+{
+    out[at] = a;
+    out[at + 1] = b;
+}
+
+fn put3(out: &mut [u32], at: usize, a: u32, b: u32, c: u32)
+    requires { ⌜ at + 3 ≤ length (now out) ⌝ }
+    ensures { λ _. ⌜ now (out .exit) ≡ putAt (now (out .entry)) at (a ∷ b ∷ c ∷ []) ⌝ }
+{
+    out[at] = a;
+    out[at + 1] = b;
+    out[at + 2] = c;
+}
+
+fn put4(out: &mut [u32], at: usize, a: u32, b: u32, c: u32, d: u32)
+    requires { ⌜ at + 4 ≤ length (now out) ⌝ }
+    ensures { λ _. ⌜ now (out .exit) ≡ putAt (now (out .entry)) at (a ∷ b ∷ c ∷ d ∷ []) ⌝ }
+{
+    out[at] = a;
+    out[at + 1] = b;
+    out[at + 2] = c;
+    out[at + 3] = d;
+}
+
+fn put5(out: &mut [u32], at: usize, a: u32, b: u32, c: u32, d: u32, e: u32)
+    requires { ⌜ at + 5 ≤ length (now out) ⌝ }
+    ensures { λ _. ⌜ now (out .exit) ≡ putAt (now (out .entry)) at (a ∷ b ∷ c ∷ d ∷ e ∷ []) ⌝ }
+{
+    out[at] = a;
+    out[at + 1] = b;
+    out[at + 2] = c;
+    out[at + 3] = d;
+    out[at + 4] = e;
+}
+
+// ---- a field, from an index on
+
+fn put_f32(out: &mut [u32], at: usize, x: f32)
+    requires { ⌜ at + 1 ≤ length (now out) ⌝ }
+    ensures { λ _. ⌜ now (out .exit) ≡ putAt (now (out .entry)) at (Words.f32 x) ⌝ }
+{
+    put1(out, at, float::word_of_f32(x));
+}
+
+fn put_pair(out: &mut [u32], at: usize, p: Pair)
+    requires { ⌜ at + 2 ≤ length (now out) ⌝ }
+    ensures { λ _. ⌜ now (out .exit) ≡ putAt (now (out .entry)) at (Words.pair p) ⌝ }
+{
+    put2(out, at, float::word_of_f32(p.x), float::word_of_f32(p.y));
+}
+
+fn put_opt_f32(out: &mut [u32], at: usize, o: OptF32)
+    requires { ⌜ at + 2 ≤ length (now out) ⌝ }
+    ensures { λ _. ⌜ now (out .exit) ≡ putAt (now (out .entry)) at (Words.optF32 o) ⌝ }
+{
+    match o {
+        OptF32::None => put2(out, at, 0, 0),
+        OptF32::Some(x) => put2(out, at, 1, float::word_of_f32(x)),
+    }
+}
+
+fn put_opt_pair(out: &mut [u32], at: usize, o: OptPair)
+    requires { ⌜ at + 3 ≤ length (now out) ⌝ }
+    ensures { λ _. ⌜ now (out .exit) ≡ putAt (now (out .entry)) at (Words.optPair o) ⌝ }
+{
+    match o {
+        OptPair::None => put3(out, at, 0, 0, 0),
+        OptPair::Some(p) => put3(out, at, 1, float::word_of_f32(p.x), float::word_of_f32(p.y)),
+    }
+}
+
+fn put_opt_rect(out: &mut [u32], at: usize, o: OptRect)
+    requires { ⌜ at + 5 ≤ length (now out) ⌝ }
+    ensures { λ _. ⌜ now (out .exit) ≡ putAt (now (out .entry)) at (Words.optRect o) ⌝ }
+{
+    match o {
+        OptRect::None => put5(out, at, 0, 0, 0, 0, 0),
+        OptRect::Some(r) => put5(
+            out,
+            at,
+            1,
+            float::word_of_f32(r.x1),
+            float::word_of_f32(r.y1),
+            float::word_of_f32(r.x2),
+            float::word_of_f32(r.y2),
+        ),
+    }
+}
+
+fn put_opt_rgb(out: &mut [u32], at: usize, o: OptRgb)
+    requires { ⌜ at + 4 ≤ length (now out) ⌝ }
+    ensures { λ _. ⌜ now (out .exit) ≡ putAt (now (out .entry)) at (Words.optRgb o) ⌝ }
+{
+    match o {
+        OptRgb::None => put4(out, at, 0, 0, 0, 0),
+        OptRgb::Some(c) => put4(out, at, 1, byte(c.red), byte(c.green), byte(c.blue)),
+    }
+}
+
+fn put_opt_u8(out: &mut [u32], at: usize, o: OptU8)
+    requires { ⌜ at + 2 ≤ length (now out) ⌝ }
+    ensures { λ _. ⌜ now (out .exit) ≡ putAt (now (out .entry)) at (Words.optU8 o) ⌝ }
+{
+    match o {
+        OptU8::None => put2(out, at, 0, 0),
+        OptU8::Some(n) => put2(out, at, 1, byte(n)),
+    }
+}
+
+fn put_opt_u16(out: &mut [u32], at: usize, o: OptU16)
+    requires { ⌜ at + 2 ≤ length (now out) ⌝ }
+    ensures { λ _. ⌜ now (out .exit) ≡ putAt (now (out .entry)) at (Words.optU16 o) ⌝ }
+{
+    match o {
+        OptU16::None => put2(out, at, 0, 0),
+        OptU16::Some(n) => put2(out, at, 1, half(n)),
+    }
+}
+
+fn put_opt_i32(out: &mut [u32], at: usize, o: OptI32)
+    requires { ⌜ at + 2 ≤ length (now out) ⌝ }
+    ensures { λ _. ⌜ now (out .exit) ≡ putAt (now (out .entry)) at (Words.optI32 o) ⌝ }
+{
+    match o {
+        OptI32::None => put2(out, at, 0, 0),
+        OptI32::Some(z) => put2(out, at, 1, float::to_word(z)),
+    }
+}
+
+fn put_opt_bool(out: &mut [u32], at: usize, o: OptBool)
+    requires { ⌜ at + 2 ≤ length (now out) ⌝ }
+    ensures { λ _. ⌜ now (out .exit) ≡ putAt (now (out .entry)) at (Words.optBool o) ⌝ }
+{
+    match o {
+        OptBool::None => put2(out, at, 0, 0),
+        OptBool::Some(b) => put2(out, at, 1, flag(b)),
+    }
+}
+
+fn put_opt_part(out: &mut [u32], at: usize, o: OptPart)
+    requires { ⌜ at + 3 ≤ length (now out) ⌝ }
+    ensures { λ _. ⌜ now (out .exit) ≡ putAt (now (out .entry)) at (Words.optPart o) ⌝ }
+{
+    match o {
+        OptPart::None => put3(out, at, 0, 0, 0),
+        OptPart::Some(p) => put3(out, at, 1, p.offset, p.size),
+    }
+}
+
+fn put_opt_name(out: &mut [u32], at: usize, o: OptName)
+    requires { ⌜ at + 5 ≤ length (now out) ⌝ }
+    ensures { λ _. ⌜ now (out .exit) ≡ putAt (now (out .entry)) at (Words.optName o) ⌝ }
+{
+    match o {
+        OptName::None => put5(out, at, 0, 0, 0, 0, 0),
+        OptName::Some(n) => {
+            let letters = n.letters;
+            let parameter = n.parameter;
+            put5(
+                out,
+                at,
+                1,
+                letters.offset,
+                letters.size,
+                parameter.offset,
+                parameter.size,
+            );
+        }
+    }
+}
+
+fn put_opt_reset(out: &mut [u32], at: usize, o: OptReset)
+    requires { ⌜ at + 3 ≤ length (now out) ⌝ }
+    ensures { λ _. ⌜ now (out .exit) ≡ putAt (now (out .entry)) at (Words.optReset o) ⌝ }
+{
+    match o {
+        OptReset::None => put3(out, at, 0, 0, 0),
+        OptReset::Plain => put3(out, at, 1, 0, 0),
+        OptReset::Named(p) => put3(out, at, 2, p.offset, p.size),
+    }
+}
+
+// ---- the state
+
+// alpha_mul to clip_drawing
+fn put_from_0(out: &mut [u32], st: RenderState)
+    requires { ⌜ 92 ≤ length (now out) ⌝ }
+    ensures { λ _. ⌜ now (out .exit) ≡ putAt (now (out .entry)) 0 (wordsFrom0 st) ⌝ }
+{
+    let always = st.always;
+    let places = st.places;
+    let clips = st.clips;
+    let line = st.line;
+    put_f32(out, 0, always.alpha_mul);
+    put_f32(out, 1, always.rotate_radians);
+    put_f32(out, 2, always.rotate_x_radians);
+    put_f32(out, 3, always.rotate_y_radians);
+    let scale = always.scale;
+    put_pair(out, 4, scale);
+    let translate = places.translate;
+    put_opt_pair(out, 6, translate);
+    put_f32(out, 9, always.blur_sigma);
+    let clip_rect = clips.clip_rect;
+    put_opt_rect(out, 10, clip_rect);
+    let clip_drawing = line.clip_drawing;
+    put_opt_part(out, 15, clip_drawing);
+}
+
+// primary_color to iclip_drawing
+fn put_from_18(out: &mut [u32], st: RenderState)
+    requires { ⌜ 92 ≤ length (now out) ⌝ }
+    ensures { λ _. ⌜ now (out .exit) ≡ putAt (now (out .entry)) 18 (wordsFrom18 st) ⌝ }
+{
+    let colors = st.colors;
+    let sizes = st.sizes;
+    let line = st.line;
+    let places = st.places;
+    let always = st.always;
+    let clips = st.clips;
+    let primary_color = colors.primary_color;
+    put_opt_rgb(out, 18, primary_color);
+    let font_size = sizes.font_size;
+    put_opt_f32(out, 22, font_size);
+    let pivot = line.pivot;
+    put_opt_pair(out, 24, pivot);
+    let border = places.border;
+    put_opt_pair(out, 27, border);
+    let shadow = places.shadow;
+    put_opt_pair(out, 30, shadow);
+    put1(out, 33, byte(always.be_strength));
+    let shear = always.shear;
+    put_pair(out, 34, shear);
+    let iclip_rect = clips.iclip_rect;
+    put_opt_rect(out, 36, iclip_rect);
+    let iclip_drawing = line.iclip_drawing;
+    put_opt_part(out, 41, iclip_drawing);
+}
+
+// secondary_color to alignment
+fn put_from_44(out: &mut [u32], st: RenderState)
+    requires { ⌜ 92 ≤ length (now out) ⌝ }
+    ensures { λ _. ⌜ now (out .exit) ≡ putAt (now (out .entry)) 44 (wordsFrom44 st) ⌝ }
+{
+    let colors = st.colors;
+    let alphas = st.alphas;
+    let sizes = st.sizes;
+    let line = st.line;
+    let secondary_color = colors.secondary_color;
+    put_opt_rgb(out, 44, secondary_color);
+    let outline_color = colors.outline_color;
+    put_opt_rgb(out, 48, outline_color);
+    let shadow_color = colors.shadow_color;
+    put_opt_rgb(out, 52, shadow_color);
+    let primary_alpha = alphas.primary_alpha;
+    put_opt_u8(out, 56, primary_alpha);
+    let secondary_alpha = alphas.secondary_alpha;
+    put_opt_u8(out, 58, secondary_alpha);
+    let outline_alpha = alphas.outline_alpha;
+    put_opt_u8(out, 60, outline_alpha);
+    let shadow_alpha = alphas.shadow_alpha;
+    put_opt_u8(out, 62, shadow_alpha);
+    let letter_spacing = sizes.letter_spacing;
+    put_opt_f32(out, 64, letter_spacing);
+    let wrap_style = line.wrap_style;
+    put_opt_u8(out, 66, wrap_style);
+    let alignment = line.alignment;
+    put_opt_u8(out, 68, alignment);
+}
+
+// font_name to drawing_scale
+fn put_from_70(out: &mut [u32], st: RenderState)
+    requires { ⌜ 92 ≤ length (now out) ⌝ }
+    ensures { λ _. ⌜ now (out .exit) ≡ putAt (now (out .entry)) 70 (wordsFrom70 st) ⌝ }
+{
+    let font = st.font;
+    let line = st.line;
+    let sizes = st.sizes;
+    let font_name = font.font_name;
+    put_opt_name(out, 70, font_name);
+    let font_encoding = font.font_encoding;
+    put_opt_u8(out, 75, font_encoding);
+    let bold_weight = font.bold_weight;
+    put_opt_u16(out, 77, bold_weight);
+    let reset_to_style = line.reset_to_style;
+    put_opt_reset(out, 79, reset_to_style);
+    let italic = font.italic;
+    put_opt_bool(out, 82, italic);
+    let underline = font.underline;
+    put_opt_bool(out, 84, underline);
+    let strikeout = font.strikeout;
+    put_opt_bool(out, 86, strikeout);
+    let drawing_baseline_offset = sizes.drawing_baseline_offset;
+    put_opt_i32(out, 88, drawing_baseline_offset);
+    let drawing_scale = line.drawing_scale;
+    put_opt_u8(out, 90, drawing_scale);
+}
+
+// Writes the state's words at the front, where there is room for all of them.
+pub fn write_state(out: &mut [u32], st: RenderState)
+    ensures { λ _. ⌜ now (out .exit) ≡ written (now (out .entry)) (stateWords st) ⌝ }
+{
+    if 92 <= out.len() {
+        put_from_0(out, st);
+        put_from_18(out, st);
+        put_from_44(out, st);
+        put_from_70(out, st);
+    }
+}
