@@ -18,7 +18,7 @@ use Rattle.tag.proofs.Tags.{fold-own}
 use Rattle.state.specs.declared.RenderState.{RenderState}
 use Rattle.state.specs.Mix.{factor, between}
 use Rattle.state.specs.Apply.{applyOwn, applyTags}
-use Rattle.evaluate.specs.Inner.{recordFrom, tagsAt, insideOf}
+use Rattle.evaluate.specs.Inner.{recordFrom, tagsAt, insideOf, aroundOf}
 
 -- ---- more steps than records change nothing
 
@@ -146,3 +146,41 @@ module _ (t dur : ℤ) (ws : List ℕ) where
     where
       next-words-2 : (at m : ℕ) → drop (width * m) (drop width (drop (width * at) ws)) ≡ drop (width * (at + 1 + m)) ws
       next-words-2 at m = ap (λ (l : List ℕ). drop (width * m) l) (next-words ws at 1) ∙ next-words ws (at + 1) m
+
+-- ---- the loop over a part of the table
+
+-- at + left and post, on the way from first, count and st
+pub record Looping (t dur : ℤ) (ws : List ℕ) (first count : ℕ) (st : RenderState) (at left : ℕ) (post : RenderState) : Type 0 where
+  pub end : at + left ≡ first + count
+  pub less : left ≤ count
+  pub state : applyTags t dur (tagsAt ws at left) post ≡ applyTags t dur (tagsAt ws first count) st
+
+module _ {t dur : ℤ} {ws : List ℕ} {first count : ℕ} {st : RenderState} where
+  pub loop-start : Looping t dur ws first count st first count st
+  loop-start = record { end = refl; less = omega arith; state = refl }
+
+  pub loop-done : {at left : ℕ} {post : RenderState} → Looping t dur ws first count st at left post → left ≤ 0 → post ≡ applyTags t dur (tagsAt ws first count) st
+  loop-done {at = at} {left = left} {post = post} l h = sym (done-at t dur ws at left post h) ∙ l .state
+
+  -- a plain tag
+  pub loop-plain : {at left : ℕ} {post next : RenderState} → Looping t dur ws first count st at left post → 0 < left → (recordFrom ws at .kind ≡ tKind → ⊥) →
+      applyOwn t dur (decodeOne (recordFrom ws at)) (λ s. s) post ≡ next → Looping t dur ws first count st (at + 1) (left - 1) next
+  loop-plain {left = zero} l z h e = absurd (omega arith)
+  loop-plain {at = at} {left = suc n} {post = post} l z h e =
+      let w : suc n - 1 ≡ n = omega arith in
+      record { end = omega arith; less = omega (arith, l .less); state = rw w (ap (λ (s : RenderState). applyTags t dur (tagsAt ws (at + 1) n) s) (sym e) ∙ sym (plain-at t dur ws at n post h) ∙ l .state) }
+
+  -- a T
+  pub loop-around : {at left : ℕ} {post next : RenderState} → Looping t dur ws first count st at left post → 0 < left → recordFrom ws at .kind ≡ tKind →
+      next ≡ aroundOf t dur ws at left post → Looping t dur ws first count st (at + (1 + insideOf (recordFrom ws at) (left - 1))) (left - (1 + insideOf (recordFrom ws at) (left - 1))) next
+  unfolding aroundOf
+  loop-around {left = zero} l z h e = absurd (omega arith)
+  loop-around {at = at} {left = suc n} {post = post} l z h e =
+      let w : suc n - 1 ≡ n = omega arith in
+      let m = insideOf (recordFrom ws at) n in
+      let p : at + (1 + m) ≡ at + 1 + m = omega arith in
+      let q : suc n - (1 + m) ≡ n - m = omega arith in
+      record {
+        end = rw w (omega (arith, l .end));
+        less = rw w (omega (arith, l .less));
+        state = rw (w, p, q, e, w) (sym (around-at t dur ws at n post h) ∙ l .state) }

@@ -10,11 +10,20 @@ ghost use Rattle.tag.specs.WellFormed.{recordAt};
 ghost use Rattle.tag.specs.Decode.{timesOf, z, decodeOne, tagsOf};
 ghost use Rattle.marks.specs.Marks.{ramp, way, stage, ownMarks, afterIn, least as leastOf, firstAfter, nextMark};
 ghost use Rattle.marks.specs.Inner.{most, stretch, earlyMarks};
+ghost use Rattle.marks.specs.Answer.{marked};
+use refusal::Checked;
+use refusal::Refusal;
 
 // The next mark after an instant, if there is one.
 pub enum Mark {
     None,
     At(i32),
+}
+
+// What the call answers.
+pub enum Marked {
+    Next(Mark),
+    Refused(Refusal),
 }
 
 // The earlier of the two.
@@ -157,4 +166,14 @@ pub fn next_after(table: &[u32], t: i32, dur: i32) -> Mark
         i += 8;
     }
     next
+}
+
+// 01, Marks: the earliest mark after t of the tags that the table stands for, in a line of dur milliseconds.
+pub fn next_mark(table: &[u32], t: i32, dur: i32) -> Marked
+    ensures { λ r. ⌜ r ≡ marked (now (table .entry)) t dur ⌝ }
+{
+    match table::check_call(table, t, dur) {
+        Checked::Bad(r) => Marked::Refused(r),
+        Checked::Good => Marked::Next(next_after(table, t, dur)),
+    }
 }

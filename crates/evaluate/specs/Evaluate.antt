@@ -1,0 +1,35 @@
+-- What the call answers: 01, Evaluation, and grounds 5 and 6.
+use mathlib.Core.List.{List}
+use Prim.Native.Nat.{ℕ}
+use lib.IntN.{ℤ}
+use Rattle.refusal.specs.Refusal.{numberOf, placeOf}
+use Rattle.refusal.specs.declared.Checked.{Checked}
+use Rattle.refusal.specs.declared.Checked.the-variants.{Good, Bad}
+use Rattle.tag.specs.Decode.{tagsOf}
+use Rattle.table.specs.Ground.{callGround}
+use Rattle.state.specs.declared.RenderState.{RenderState}
+use Rattle.state.specs.State.{identity}
+use Rattle.state.specs.Apply.{evaluateAt}
+use Rattle.evaluate.specs.declared.Evaluated.{Evaluated}
+
+abbrev pub evaluatedOr : Checked → RenderState → Evaluated
+evaluatedOr (Bad r) st = Evaluated.Refused r
+evaluatedOr Good st = Evaluated.State st
+
+-- the state of the tags that the table stands for, unless the table or a time is at fault
+unfoldable pub evaluated : List ℕ → ℤ → ℤ → Evaluated
+unfolding evaluateAt
+evaluated ws t dur = evaluatedOr (callGround ws t dur) (evaluateAt t dur (tagsOf ws))
+
+-- the answer's ground, 0 for none; its place; the state, `identity` beside a refusal
+abbrev pub groundNumber : Evaluated → ℕ
+groundNumber (Evaluated.State st) = 0
+groundNumber (Evaluated.Refused r) = numberOf r
+
+abbrev pub groundPlace : Evaluated → ℕ
+groundPlace (Evaluated.State st) = 0
+groundPlace (Evaluated.Refused r) = placeOf r
+
+abbrev pub stateOf : Evaluated → RenderState
+stateOf (Evaluated.State st) = st
+stateOf (Evaluated.Refused r) = identity
