@@ -21,7 +21,7 @@ use tag::Record;
 ghost use mathlib.Core.Path.{_≡_};
 ghost use Rattle.scan.specs.Scan.{pick};
 ghost use Rattle.tag.specs.Decode.{timesOf, f};
-ghost use Rattle.state.specs.Mix.{startOf, endOf, ramp as rampOf, finite as finiteOf, nearZero, accelOf, bent as bentOf, held as heldOf, factor as factorOf, f32Or, i32Or, lerpBytes, mixAlphas, mixAlways, mixClips, mixColors, mixF32, mixFont, mixI32, mixLine, mixOptPair, mixOptRect, mixOptRgb, mixPair, mixPlaces, mixRect, mixRgb, mixSizes, mixStrength, mixU8, pairOr, rectOr, rgbOr, samePair, u8Or, between as betweenOf};
+ghost use Rattle.state.specs.Mix.{startOf, endOf, ramp as rampOf, finite as finiteOf, nearZero, accelOf, bent as bentOf, held as heldOf, factor as factorOf, cutBetween, roundBetween, f32Or, i32Or, lerpBytes, mixAlphas, mixAlways, mixClips, mixColors, mixF32, mixFont, mixI32, mixLine, mixOptPair, mixOptRect, mixOptRgb, mixPair, mixPlaces, mixRect, mixRgb, mixSizes, mixStrength, mixU8, pairOr, rectOr, rgbOr, samePair, u8Or, between as betweenOf};
 
 // ---- the factor
 
@@ -121,13 +121,27 @@ fn between_bytes(a: u8, b: u8, k: f32) -> f32
     )
 }
 
+// Colours: cut.
+fn cut_between(a: u8, b: u8, k: f32) -> u8
+    ensures { λ r. ⌜ r ≡ cutBetween a b k ⌝ }
+{
+    float::cut_byte(between_bytes(a, b, k))
+}
+
+// Alphas and \be: rounded.
+fn round_between(a: u8, b: u8, k: f32) -> u8
+    ensures { λ r. ⌜ r ≡ roundBetween a b k ⌝ }
+{
+    float::round_byte(between_bytes(a, b, k))
+}
+
 fn mix_rgb(a: Rgb, b: Rgb, k: f32) -> Rgb
     ensures { λ r. ⌜ r ≡ mixRgb a b k ⌝ }
 {
     Rgb {
-        red: float::cut_byte(between_bytes(a.red, b.red, k)),
-        green: float::cut_byte(between_bytes(a.green, b.green, k)),
-        blue: float::cut_byte(between_bytes(a.blue, b.blue, k)),
+        red: cut_between(a.red, b.red, k),
+        green: cut_between(a.green, b.green, k),
+        blue: cut_between(a.blue, b.blue, k),
     }
 }
 
@@ -226,7 +240,7 @@ fn mix_opt_u8(a: OptU8, b: OptU8, k: f32) -> OptU8
 {
     match b {
         OptU8::None => a,
-        OptU8::Some(y) => OptU8::Some(float::round_byte(between_bytes(u8_or(a, y), y, k))),
+        OptU8::Some(y) => OptU8::Some(round_between(u8_or(a, y), y, k)),
     }
 }
 
@@ -246,11 +260,7 @@ fn mix_opt_i32(a: OptI32, b: OptI32, k: f32) -> OptI32
 fn mix_strength(a: u8, b: u8, k: f32) -> u8
     ensures { λ r. ⌜ r ≡ mixStrength a b k ⌝ }
 {
-    if a == b {
-        a
-    } else {
-        float::round_byte(between_bytes(a, b, k))
-    }
+    if a == b { a } else { round_between(a, b, k) }
 }
 
 fn mix_always(a: Always, b: Always, k: f32) -> Always

@@ -1,5 +1,4 @@
 use borrow.Author.Needs.{needs}
-use Rattle.state.specs.Mix.{roundBetween}
 use Rattle.mix.proofs.mix_opt_u8.Statement.{statement}
 use Rattle.mix.proofs.mix_opt_u8.Tie as tie
 
@@ -12,27 +11,15 @@ enum-known-b c = search needs
 u8-or-requires : tie.Need-u8-or-requires
 u8-or-requires c κs = search needs
 
-between-bytes-requires : tie.Need-between-bytes-requires
-between-bytes-requires c κs = search needs
-
-round-byte-requires : tie.Need-round-byte-requires
-round-byte-requires c κs = search needs
+round-between-requires : tie.Need-round-between-requires
+round-between-requires c κs = search needs
 
 returns : tie.Need-returns
 returns c = search needs
 
 returns-2 : tie.Need-returns-2
-unfolding roundBetween
-returns-2 c = rw (c .before .before .before .before .b .given .1, c .round-byte .ensures, c .before .between-bytes .ensures, c .before .before .u8-or .ensures)
+returns-2 c = rw (c .before .before .before .b .given .1, c .round-between .ensures, c .before .u8-or .ensures)
 
 pub mix-opt-u8-spec : {M : Type 1} → statement M
 mix-opt-u8-spec =
-    tie.close
-    (tie.spec
-    enum-told
-    enum-known-b
-    u8-or-requires
-    between-bytes-requires
-    round-byte-requires
-    returns
-    returns-2)
+    tie.close (tie.spec enum-told enum-known-b u8-or-requires round-between-requires returns returns-2)
