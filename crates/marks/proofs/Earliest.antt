@@ -1,14 +1,14 @@
 -- What the definition finds is the earliest later mark.
-use mathlib.Core.Path.{_≡_, refl, sym, ap, _∙_}
+use mathlib.Core.Path.{_≡_, refl}
 use mathlib.Core.Bool.{Bool, true, false}
 use mathlib.Core.List.{List, [], _∷_}
-use mathlib.Core.Logic.{⊎-elim}
 use lib.IntN.{ℤ, sucℤ}
 use lib.Signed.{leZ, _≤ℤ_, _<ℤ_, ≤ℤ-refl, <ℤ-≤ℤ-trans, clashℤ}
 use Rattle.scan.specs.Scan.{pick}
+use Rattle.tag.specs.Tag.{Tags}
 use Rattle.marks.specs.declared.Mark.{Mark}
-use Rattle.marks.specs.Marks.{Interval, Within, IsMark, here, later, afterIn, least, firstAfter, Earliest, at, never}
-use Rattle.marks.proofs.Order.{leZ-true, leZ-false, ≤ℤ-trans, <ℤ-suc, suc-after, <ℤ-≤ℤ, ≤ℤ-<ℤ-trans}
+use Rattle.marks.specs.Marks.{Interval, marks, nextMark, Within, IsMark, here, later, afterIn, least, firstAfter, Earliest, at, never}
+use Rattle.marks.proofs.Order.{leZ-true, leZ-false, ≤ℤ-trans, <ℤ-suc, suc-after, <ℤ-≤ℤ}
 
 -- ---- one interval
 
@@ -50,3 +50,8 @@ pub earliest : (t : ℤ) (l : List Interval) → Earliest l t (firstAfter t l)
 unfolding firstAfter
 earliest t [] = never (λ x m h. none m)
 earliest t (i ∷ l) = both (one t i) (earliest t l)
+
+-- of tags
+pub next-earliest : (t dur : ℤ) (l : Tags) → Earliest (marks dur l) t (nextMark t dur l)
+unfolding nextMark
+next-earliest t dur l = earliest t (marks dur l)

@@ -11,7 +11,7 @@ use lib.ListN.{length, getD, take, drop, replicate, length-take, length-drop, ta
 use borrow.Author.Tests.{eqb-true}
 use Rattle.scan.specs.Scan.{pick}
 use Rattle.tag.specs.declared.Record.{Record}
-use Rattle.tag.specs.Tag.{AnimatedTag, Karaoke, Fill, Tags, none, and, inside, foldTags}
+use Rattle.tag.specs.Tag.{AnimatedTag, Karaoke, Fill, Tags, none, and, inside}
 use Rattle.tag.specs.WellFormed.{tKind, holds}
 use Rattle.tag.specs.Decode.{decoders, decodeOne, decodeT, decodeIn, decode}
 use Rattle.tag.proofs.Tags.{fold-own}

@@ -37,22 +37,24 @@ quiet (suc n) zero a h = refl
 quiet (suc n) (suc i) a h = quiet n i a (λ e. h (ap suc e))
 
 module _ (t dur : ℤ) (r : Record) where
-  own-all : map (λ (f : Record → AnimatedTag). ownMarks dur (f r)) decoders
-      ≡ ownMarks dur (Fad (r .w1) (r .w2)) ∷ (stage (z (r .w4)) (z (r .w5)) ∷ stage (z (r .w6)) (z (r .w7)) ∷ []) ∷ [] ∷ (way (timesOf (r .w5) (r .w6) (r .w7)) dur ∷ [])
-      ∷ (replicate 44 [] ++ ((way (timesOf (r .w1) (r .w2) (r .w3)) dur ∷ []) ∷ []))
+  -- the own marks of each kind from 1 on, had the record that kind
+  abbrev kinds : List (List Interval)
+  kinds =
+      ownMarks dur (Fad (r .w1) (r .w2)) ∷
+      (stage (z (r .w4)) (z (r .w5)) ∷ stage (z (r .w6)) (z (r .w7)) ∷ []) ∷
+      [] ∷
+      (way (timesOf (r .w5) (r .w6) (r .w7)) dur ∷ []) ∷
+      (replicate 44 [] ++ ((way (timesOf (r .w1) (r .w2) (r .w3)) dur ∷ []) ∷ []))
+
+  own-all : map (λ (f : Record → AnimatedTag). ownMarks dur (f r)) decoders ≡ kinds
   unfolding decoders
   own-all = refl
 
-  abbrev place : List (List Interval) → List Interval
-  place l = getD l (r .kind - 1) []
-
-  own-at : ownMarks dur (decodeOne r) ≡ place (map (λ (f : Record → AnimatedTag). ownMarks dur (f r)) decoders)
+  own : ownMarks dur (decodeOne r) ≡ getD kinds (r .kind - 1) []
   unfolding decodeOne
-  own-at = sym (List·getD-map (λ (f : Record → AnimatedTag). ownMarks dur (f r)) decoders (r .kind - 1) (λ (r : Record). Karaoke Fill 0))
-
-  own : ownMarks dur (decodeOne r) ≡ place (ownMarks dur (Fad (r .w1) (r .w2)) ∷ (stage (z (r .w4)) (z (r .w5)) ∷ stage (z (r .w6)) (z (r .w7)) ∷ []) ∷ [] ∷ (way (timesOf (r .w5) (r .w6) (r .w7)) dur ∷ [])
-      ∷ (replicate 44 [] ++ ((way (timesOf (r .w1) (r .w2) (r .w3)) dur ∷ []) ∷ [])))
-  own = own-at ∙ ap place own-all
+  own =
+      sym (List·getD-map (λ (f : Record → AnimatedTag). ownMarks dur (f r)) decoders (r .kind - 1) (λ (r : Record). Karaoke Fill 0))
+      ∙ ap (λ (l : List (List Interval)). getD l (r .kind - 1) []) own-all
 
   abbrev next : Mark
   next = firstAfter t (ownMarks dur (decodeOne r))
@@ -92,8 +94,7 @@ module _ (t dur : ℤ) (r : Record) where
   unfolding firstAfter
   own-none q = ap (firstAfter t) (own ∙ go (r .kind - 1) refl)
     where
-      go : (k : ℕ) → r .kind - 1 ≡ k → getD (ownMarks dur (Fad (r .w1) (r .w2)) ∷ (stage (z (r .w4)) (z (r .w5)) ∷ stage (z (r .w6)) (z (r .w7)) ∷ []) ∷ [] ∷ (way (timesOf (r .w5) (r .w6) (r .w7)) dur ∷ [])
-          ∷ (replicate 44 [] ++ ((way (timesOf (r .w1) (r .w2) (r .w3)) dur ∷ []) ∷ []))) k [] ≡ []
+      go : (k : ℕ) → r .kind - 1 ≡ k → getD kinds k [] ≡ []
       go zero e = absurd (omega (arith, q .above))
       go (suc zero) e = absurd (q .no-fade (omega (arith, q .above)))
       go (suc (suc zero)) e = refl
