@@ -1,7 +1,8 @@
-// 01, What demand 3 speaks of: two controllers that read one block into tables of their own, work out states and ask for marks.
+// 01, What demand 3 speaks of: two controllers read one block into tables of their own, work out states and ask for marks.
 ghost use mathlib.Core.Path.{_≡_};
-ghost use Rattle.animate.specs.Claim.{Agreed};
-ghost use Rattle.animate.specs.Inner.{spanOf, Ran};
+ghost use Rattle.read.specs.Reading.{Answered};
+ghost use Rattle.animate.specs.Claim.{spanOf, Agreed};
+ghost use Rattle.animate.specs.Inner.{wordsIn, seenAt, Ran};
 use evaluate::Evaluated;
 use marks::Marked;
 use refusal::Answer;
@@ -12,25 +13,36 @@ pub struct Seen {
     pub next: Marked,
 }
 
-// What one controller was told: of the reading, and at two instants.
+// What one controller is told: by the reading, and at two instants.
 pub struct Told {
     pub reading: Answer,
     pub one: Seen,
     pub other: Seen,
 }
 
-// What two were told.
+// What two are told.
 pub struct Both {
     pub first: Told,
     pub second: Told,
 }
 
-// The number of records that a reading wrote.
-fn written(r: Answer) -> usize
-    ensures { λ n. ⌜ n ≡ answerValue r ⌝ }
+// Either reading call: of a block in braces, or of one without.
+fn read_block(text: &[u8], raw: bool, table: &mut [u32]) -> Answer
+    ensures { λ r. ⌜ Answered (now (text .entry)) (spanOf raw (now (text .entry))) (now (table .entry)) r (now (table .exit)) ⌝ }
+{
+    if raw {
+        read::parse_raw_block(text, table)
+    } else {
+        read::parse_overrides(text, table)
+    }
+}
+
+// The words of the records that a reading wrote.
+fn words_in(r: Answer) -> usize
+    ensures { λ n. ⌜ n ≡ wordsIn r ⌝ }
 {
     match r {
-        Answer::Written(n) => n,
+        Answer::Written(n) => if n <= 1024 { 8 * n } else { 8192 },
         Answer::Refused(_) => 0,
     }
 }
@@ -41,4 +53,24 @@ fn seen(table: &[u32], t: i32, dur: i32) -> Seen
     let state = evaluate::evaluate_at(table, t, dur);
     let next = marks::next_mark(table, t, dur);
     Seen { state, next }
+}
+
+// One controller: it reads the block and asks at two instants, on exactly the records that the reading wrote.
+fn controller(text: &[u8], raw: bool, table: &mut [u32], t: i32, u: i32, dur: i32) -> Told
+    ensures { λ r. ⌜ Ran (now (text .entry)) (spanOf raw (now (text .entry))) (now (table .entry)) t u dur r (now (table .exit)) ⌝ }
+{
+    let reading = read_block(text, raw, table);
+    let n = scan::least(words_in(reading), table.len());
+    let one = seen(&table[..n], t, dur);
+    let other = seen(&table[..n], u, dur);
+    Told { reading, one, other }
+}
+
+// Demand 3, whole: two controllers, tables of any sizes and any old contents, one block, any duration, any two instants.
+pub fn two_controllers(text: &[u8], raw: bool, a: &mut [u32], b: &mut [u32], t: i32, u: i32, dur: i32) -> Both
+    ensures { λ r. ⌜ Agreed (now (text .entry)) (spanOf raw (now (text .entry))) (now (a .entry)) (now (b .entry)) t u dur r (now (a .exit)) (now (b .exit)) ⌝ }
+{
+    let first = controller(text, raw, a, t, u, dur);
+    let second = controller(text, raw, b, t, u, dur);
+    Both { first, second }
 }

@@ -7,9 +7,8 @@ use mir.ValLaws.{toZ-ofZ}
 use Rattle.state.specs.State.{withAlways, withPlaces, withClips, withSizes, withColors, withAlphas, withLine, withFont}
 use Rattle.apply.specs.declared.Group.{Group}
 use Rattle.apply.proofs.Groups.{nothing-law, always-law, places-law, clips-law, sizes-law, colors-law, alphas-law, line-law, font-law, reset-law}
-use Rattle.evaluate.specs.Inner.{aroundOf}
 use Rattle.evaluate.proofs.Turns.{Looping, loop-start, loop-done}
-use Rattle.evaluate.proofs.Arms.{turn-by, turn-around}
+use Rattle.evaluate.proofs.Arms.{turn-by, turn-around, around-is}
 use Prim.Native.Nat.{ℕ, _<_, _≤_, _+_, _-_, _*_}
 use borrow.Fn.Kinds.{In}
 use borrow.Fn.PlainCycle.{Measures, is, falls, and}
@@ -128,8 +127,11 @@ apply-t-between-requires : (t : ℕ) → apply-t-lts.Need-between-requires (call
 apply-t-between-requires t c κs = search needs
 
 apply-t-returns : (t : ℕ) → apply-t-lts.Need-returns (calls-t t) (apply-t-at t) apply-t.Post
-unfolding aroundOf
-apply-t-returns t c = rw (c .between .ensures, c .before .factor .ensures, c .before .before .apply-tags .ensures, c .before .before .before .inside .ensures, c .before .before .before .before .record-at .ensures)
+apply-t-returns t c =
+    let s = c .before .before .before .before .before .before in
+    let a = s .args in
+    let e = around-is (toZ w32 (ofZ w32 (a .t))) (toZ w32 (ofZ w32 (a .dur))) (a .table .now) (a .at) (a .left) (a .st) (c .before .before .before .before .record-at .ensures) (c .before .before .before .inside .ensures) (c .before .before .apply-tags .ensures) (c .before .factor .ensures) (c .between .ensures) in
+    rw (toZ-ofZ w32 (a .t) (s .fits .t), toZ-ofZ w32 (a .dur) (s .fits .dur)) at e
 
 apply-tags-loop-holds : (t : ℕ) → apply-tags-lts.Need-loop-holds (calls-tags t) (apply-tags-at t) apply-tags.Post apply-tags-Inv-loop apply-tags-μ-loop
 apply-tags-loop-holds t c = search needs
