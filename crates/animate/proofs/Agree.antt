@@ -8,7 +8,8 @@ use lib.Dec.{leb}
 use lib.IntN.{ℤ}
 use lib.ListN.{length, take}
 use lib.Signed.{leZ, _≤ℤ_}
-use borrow.Author.Tests.{le-leb, lt-leb, leb-true}
+use lib.Seq.{take-all}
+use borrow.Author.Tests.{le-leb, lt-leb, leb-true, leb-false}
 use Rattle.scan.specs.Scan.{pick}
 use Rattle.lists.specs.declared.Found.{Found}
 use Rattle.lists.specs.declared.Found.the-variants.{Nowhere, At}
@@ -94,6 +95,14 @@ few-out Good Nowhere Nowhere n p m e = go (leb n (min p mostPlaces)) refl e
 
 room : (n p : ℕ) (r : Answer) → r ≡ roomFor n p → Space n (min p mostPlaces) r
 room n p r e = record { lacks = λ h. e ∙ rw (lt-leb n (min p mostPlaces) h); fits = λ h. e ∙ rw (le-leb n (min p mostPlaces) h) }
+
+-- so many words of a list, or all of it where it has fewer
+pub take-least : (n m : ℕ) (l : List ℕ) → m ≡ min n (length l) → take m l ≡ take n l
+take-least n m l e = go (leb n (length l)) refl
+  where
+    go : (b : Bool) → leb n (length l) ≡ b → take m l ≡ take n l
+    go true h = let k : m ≡ n = omega (arith, leb-true n (length l) h) in rw k
+    go false h = take-all m l (omega (arith, leb-false n (length l) h)) ∙ sym (take-all n l (omega (arith, leb-false n (length l) h)))
 
 -- ---- one controller
 

@@ -1,5 +1,6 @@
 // 01, What demand 3 speaks of: two controllers read one block into tables of their own, work out states and ask for marks.
 ghost use mathlib.Core.Path.{_≡_};
+ghost use lib.ListN.{take};
 ghost use Rattle.read.specs.Reading.{Answered};
 ghost use Rattle.animate.specs.Claim.{spanOf, Agreed};
 ghost use Rattle.animate.specs.Inner.{wordsIn, seenAt, Ran};
@@ -47,11 +48,14 @@ fn words_in(r: Answer) -> usize
     }
 }
 
-fn seen(table: &[u32], t: i32, dur: i32) -> Seen
-    ensures { λ r. ⌜ r ≡ seenAt (now (table .entry)) t dur ⌝ }
+// What a table answers at t on its first n words.
+fn look(table: &[u32], n: usize, t: i32, dur: i32) -> Seen
+    ensures { λ r. ⌜ r ≡ seenAt (take n (now (table .entry))) t dur ⌝ }
 {
-    let state = evaluate::evaluate_at(table, t, dur);
-    let next = marks::next_mark(table, t, dur);
+    let m = scan::least(n, table.len());
+    let part = &table[0..m];
+    let state = evaluate::evaluate_at(part, t, dur);
+    let next = marks::next_mark(part, t, dur);
     Seen { state, next }
 }
 
@@ -60,9 +64,9 @@ fn controller(text: &[u8], raw: bool, table: &mut [u32], t: i32, u: i32, dur: i3
     ensures { λ r. ⌜ Ran (now (text .entry)) (spanOf raw (now (text .entry))) (now (table .entry)) t u dur r (now (table .exit)) ⌝ }
 {
     let reading = read_block(text, raw, table);
-    let n = scan::least(words_in(reading), table.len());
-    let one = seen(&table[..n], t, dur);
-    let other = seen(&table[..n], u, dur);
+    let n = words_in(reading);
+    let one = look(&table[..], n, t, dur);
+    let other = look(&table[..], n, u, dur);
     Told { reading, one, other }
 }
 
