@@ -33,10 +33,10 @@ use Rattle.apply.specs.declared.Group.{Group}
 
 -- ---- the group of a kind
 
--- from 0 on, in the order of the enum; `decodeOne` reads a record of kind 0, which no well-formed table has, as one of kind 1
+-- from 0, which is no kind, on, in the order of the enum
 unfoldable pub groups : List Group
 groups =
-    Group.Always ∷  -- none
+    Group.Nothing ∷  -- none
     Group.Always ∷  -- Fad
     Group.Always ∷  -- Fade
     Group.Places ∷  -- Pos
@@ -107,7 +107,6 @@ fadeBy t r s = faded s (alphaToMul (fadeAlpha (byte (r .w1)) (byte (r .w2)) (byt
 
 abbrev pub alwaysKinds : ℤ → ℤ → Record → Always → List (ℕ × Always)
 alwaysKinds t dur r s =
-    (0, fadBy t dur r s) ∷
     (1, fadBy t dur r s) ∷
     (2, fadeBy t r s) ∷
     (5, setRotateRadians s (toRadians (f (r .w1)))) ∷

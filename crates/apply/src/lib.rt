@@ -97,12 +97,10 @@ pub enum Group {
     T,
 }
 
-// Kind 0, which no well-formed table has, is read as 1.
 pub fn group_of(kind: u32) -> Group
     ensures { λ r. ⌜ r ≡ groupOf kind ⌝ }
 {
     match kind {
-        0 => Group::Always,
         1 => Group::Always,
         2 => Group::Always,
         3 => Group::Places,
@@ -266,7 +264,6 @@ pub fn apply_always(s: Always, r: Record, t: i32, dur: i32) -> Always
 {
     let kind = r.kind;
     match kind {
-        0 => fad(s, r, t, dur),
         1 => fad(s, r, t, dur),
         2 => fade(s, r, t),
         5 => set_rotate_radians(s, radians(r.w1)),
