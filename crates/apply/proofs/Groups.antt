@@ -11,7 +11,7 @@ use borrow.Author.Tests.{eqb-true, eqb-false, leb-true, leb-false, ne-eqb}
 use Rattle.tag.specs.declared.Record.{Record}
 use Rattle.tag.specs.Tag.{AnimatedTag, Karaoke, Fill}
 use Rattle.tag.specs.WellFormed.{tKind}
-use Rattle.tag.specs.Decode.{decoders, decodeOne}
+use Rattle.tag.specs.Decode.{decoders, nothing, decodeOne}
 use Rattle.state.specs.declared.RenderState.{RenderState}
 use Rattle.state.specs.State.{withAlways, withPlaces, withClips, withSizes, withColors, withAlphas, withLine, withFont}
 use Rattle.state.specs.Apply.{applyOwn}
@@ -55,7 +55,7 @@ group-past k h = List·getD-eq-default groups Group.Nothing h
 
 decode-past : (r : Record) → 50 ≤ r .kind → decodeOne r ≡ Karaoke Fill 0
 unfolding decodeOne decoders
-decode-past r h = ap (λ (g : Record → AnimatedTag). g r) (List·getD-eq-default decoders (λ r. Karaoke Fill 0) {n = r .kind - 1} (omega arith))
+decode-past r h = ap (λ (g : Record → AnimatedTag). g r) (List·getD-eq-default (nothing ∷ decoders) nothing {n = r .kind} h)
 
 -- ---- the effect of a tag by its group
 

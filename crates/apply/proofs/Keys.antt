@@ -6,7 +6,7 @@ use native.Mathlib.Omega.{arith}
 use borrow.Author.Tests.{ne-eqb}
 use Rattle.apply.specs.Inner.{by}
 
-abbrev Missed : ℕ → Type 0 → List ℕ → Type 0
+abbrev pub Missed : ℕ → Type 0 → List ℕ → Type 0
 Missed k X [] = X
 Missed k X (n ∷ l) = Missed k (X × (k ≡ n → ⊥)) l
 
@@ -14,7 +14,7 @@ abbrev keys : {A : Type 0} → List (ℕ × A) → List ℕ
 keys [] = []
 keys (x ∷ l) = x .0 ∷ keys l
 
-abbrev from : ℕ → ℕ → List ℕ
+abbrev pub from : ℕ → ℕ → List ℕ
 from i zero = []
 from i (suc n) = i ∷ from (suc i) n
 
@@ -29,7 +29,7 @@ all-missed k X (x ∷ l) d m =
 pub missed : {A : Type 0} (k : ℕ) (l : List (ℕ × A)) (d : A) → Missed k Unit (keys l) → by k l d ≡ d
 missed k l d m = all-missed k Unit l d m .1
 
--- none of the n numbers from 0 on
+-- none of the n numbers from i on
 all-past : (k : ℕ) (X : Type 0) (i n : ℕ) → Missed k X (from i n) → X × (i ≤ k → i + n ≤ k)
 all-past k X i zero m = (m, λ h. omega arith)
 all-past k X i (suc n) m =
@@ -38,5 +38,5 @@ all-past k X i (suc n) m =
     let more = r .1 in
     (r .0 .0, λ h. let q : suc i + n ≤ k = more (omega (arith, ne)) in omega arith)
 
-pub past : (k n : ℕ) → Missed k Unit (from 0 n) → n ≤ k
-past k n m = let h : 0 + n ≤ k = all-past k Unit 0 n m .1 (omega arith) in omega arith
+pub past : (k i n : ℕ) → Missed k Unit (from i n) → i ≤ k → i + n ≤ k
+past k i n m = all-past k Unit i n m .1

@@ -1,3 +1,2 @@
 pub mod Groups
-pub mod Ints
 pub mod Keys

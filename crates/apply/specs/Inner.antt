@@ -3,12 +3,11 @@ use Prim.Native.Nat.{ℕ, min}
 use mathlib.Core.List.{List, [], _∷_}
 use lib.Dec.{eqb}
 use lib.IntN.{ℤ}
-use lib.Ieee.{Float}
 use lib.ListN.{getD}
 use Rattle.scan.specs.Scan.{pick}
 use Rattle.float.specs.Float.{maxZero, toRadians}
 use Rattle.tag.specs.declared.Record.{Record}
-use Rattle.tag.specs.Decode.{f, z, flagOf, timesOf, partOf, rgbOf, resetOf as resetIn}
+use Rattle.tag.specs.Decode.{f, z, flagOf, partOf, rgbOf, resetOf as resetIn}
 use Rattle.state.specs.declared.OptF32.{OptF32}
 use Rattle.state.specs.declared.OptPair.{OptPair}
 use Rattle.state.specs.declared.OptRect.{OptRect}
@@ -27,16 +26,17 @@ use Rattle.state.specs.declared.Line.{Line}
 use Rattle.state.specs.declared.Font.{Font}
 use Rattle.state.specs.declared.RenderState.{RenderState}
 use Rattle.state.specs.State.{identity, withLine, setRotateRadians, setRotateXRadians, setRotateYRadians, setScale, setBlurSigma, setBeStrength, setShear, setTranslate, setBorder, setShadow, setClipRect, setIclipRect, setFontSize, setLetterSpacing, setDrawingBaselineOffset, setPrimaryColor, setSecondaryColor, setOutlineColor, setShadowColor, setPrimaryAlpha, setSecondaryAlpha, setOutlineAlpha, setShadowAlpha, setPivot, setClipDrawing, setIclipDrawing, setResetToStyle, setDrawingScale, setFontName, setFontEncoding, setBoldWeight, setItalic, setUnderline, setStrikeout}
-use Rattle.state.specs.Mix.{ramp, startOf, endOf, mixPair}
+use Rattle.state.specs.Mix.{mixPair}
 use Rattle.state.specs.Apply.{fadAlpha, fadeAlpha, alphaToMul, faded, byte, at, withX, withY, axes, hundredth, rectOf, part, someRgb, someByte, allAlphas, resetOf, numpad, aligned, wrapped}
+use Rattle.ramp.specs.Inner.{progressBy}
 use Rattle.apply.specs.declared.Group.{Group}
 
 -- ---- the group of a kind
 
--- from 0 on, in the order of the enum; `decodeOne` reads a record of kind 0, which no well-formed table has, as one of kind 1
+-- from 0, which is no kind, on, in the order of the enum
 unfoldable pub groups : List Group
 groups =
-    Group.Always ∷  -- none
+    Group.Nothing ∷  -- none
     Group.Always ∷  -- Fad
     Group.Always ∷  -- Fade
     Group.Places ∷  -- Pos
@@ -107,7 +107,6 @@ fadeBy t r s = faded s (alphaToMul (fadeAlpha (byte (r .w1)) (byte (r .w2)) (byt
 
 abbrev pub alwaysKinds : ℤ → ℤ → Record → Always → List (ℕ × Always)
 alwaysKinds t dur r s =
-    (0, fadBy t dur r s) ∷
     (1, fadBy t dur r s) ∷
     (2, fadeBy t r s) ∷
     (5, setRotateRadians s (toRadians (f (r .w1)))) ∷
@@ -124,10 +123,6 @@ alwaysKinds t dur r s =
 unfoldable pub alwaysBy : ℤ → ℤ → Record → Always → Always
 unfolding by
 alwaysBy t dur r s = by (r .kind) (alwaysKinds t dur r s) s
-
--- how far the times of \move and \t have come
-abbrev pub progressBy : ℕ → ℕ → ℕ → ℤ → ℤ → Float
-progressBy flag a b t dur = let x = timesOf flag a b in ramp (startOf x) (endOf x dur) t
 
 -- the place that \move has come to
 abbrev pub movedBy : ℤ → ℤ → Record → OptPair

@@ -3,9 +3,8 @@ ghost use mathlib.Core.Path.{_≡_};
 ghost use Rattle.float.specs.Float.{toRadians, maxZero};
 ghost use Rattle.tag.specs.Decode.{f};
 ghost use Rattle.state.specs.State.{setScale, setShear};
-ghost use Rattle.state.specs.Mix.{ramp as rampOf};
 ghost use Rattle.state.specs.Apply.{at, hundredth as hundredthOf, faded as fadedBy, allAlphas, aligned as alignedBy, wrapped as wrappedBy};
-ghost use Rattle.apply.specs.Inner.{groupOf, fadBy, fadeBy, alwaysBy, progressBy, movedBy, placesBy, clipsBy, sizesBy, colorsBy, alphasBy, lineBy, fontBy, resetBy};
+ghost use Rattle.apply.specs.Inner.{groupOf, fadBy, fadeBy, alwaysBy, movedBy, placesBy, clipsBy, sizesBy, colorsBy, alphasBy, lineBy, fontBy, resetBy};
 
 mod times;
 mod values;
@@ -64,7 +63,6 @@ use tag::Record;
 use times::alpha_to_mul;
 use times::fad_alpha;
 use times::fade_alpha;
-use times::passed;
 use values::both;
 use values::byte;
 use values::numpad;
@@ -97,12 +95,10 @@ pub enum Group {
     T,
 }
 
-// Kind 0, which no well-formed table has, is read as 1.
 pub fn group_of(kind: u32) -> Group
     ensures { λ r. ⌜ r ≡ groupOf kind ⌝ }
 {
     match kind {
-        0 => Group::Always,
         1 => Group::Always,
         2 => Group::Always,
         3 => Group::Places,
@@ -154,32 +150,6 @@ pub fn group_of(kind: u32) -> Group
         49 => Group::T,
         _ => Group::Nothing,
     }
-}
-
-// How far t is on its way.
-pub fn ramp(start: i32, end: i32, t: i32) -> f32
-    ensures { λ r. ⌜ r ≡ rampOf start end t ⌝ }
-{
-    if end <= start {
-        return if t >= end { 1.0 } else { 0.0 };
-    }
-    if t <= start {
-        return 0.0;
-    }
-    if t >= end {
-        return 1.0;
-    }
-    passed(start, end, t)
-}
-
-// The same with the times of \move and \t, which are from 0 to dur where the flag says that there are none.
-pub fn progress(flag: u32, a: u32, b: u32, t: i32, dur: i32) -> f32
-    ensures { λ r. ⌜ r ≡ progressBy flag a b t dur ⌝ }
-{
-    if flag == 0 {
-        return ramp(0, dur, t);
-    }
-    ramp(float::of_word(a), float::of_word(b), t)
 }
 
 // ---- what every state has
@@ -266,7 +236,6 @@ pub fn apply_always(s: Always, r: Record, t: i32, dur: i32) -> Always
 {
     let kind = r.kind;
     match kind {
-        0 => fad(s, r, t, dur),
         1 => fad(s, r, t, dur),
         2 => fade(s, r, t),
         5 => set_rotate_radians(s, radians(r.w1)),
@@ -287,12 +256,10 @@ pub fn apply_always(s: Always, r: Record, t: i32, dur: i32) -> Always
 fn moved(r: Record, t: i32, dur: i32) -> OptPair
     ensures { λ q. ⌜ q ≡ movedBy t dur r ⌝ }
 {
-    let k = progress(r.w5, r.w6, r.w7, t, dur);
+    let k = ramp::progress(r.w5, r.w6, r.w7, t, dur);
     let a = pair(r.w1, r.w2);
     let b = pair(r.w3, r.w4);
-    let x = float::lerp_f32(a.x, b.x, k);
-    let y = float::lerp_f32(a.y, b.y, k);
-    OptPair::Some(Pair { x, y })
+    OptPair::Some(ramp::mix_pair(a, b, k))
 }
 
 pub fn apply_places(s: Places, r: Record, t: i32, dur: i32) -> Places

@@ -6,15 +6,16 @@ use Prim.Native.Nat.{ℕ, zero, suc, _+_, _-_, _*_, _≤_, _<_, min}
 use native.Mathlib.Omega.{arith}
 use lib.Dec.{eqb, leb}
 use lib.IntN.{ℤ}
-use lib.ListN.{length, take, drop, getD, length-take, length-drop}
+use lib.ListN.{length, take, drop, length-take, length-drop}
 use lib.Seq.{take-all, drop-drop}
 use borrow.Author.Tests.{eq-eqb, ne-eqb, leb-true, leb-false}
 use Rattle.tag.specs.declared.Record.{Record}
-use Rattle.tag.specs.Tag.{AnimatedTag, Tags, none, and, inside, foldTag, foldTags}
+use Rattle.tag.specs.Tag.{Tags, none, and, inside, foldTag, foldTags}
 use Rattle.tag.specs.Table.{width}
-use Rattle.tag.specs.WellFormed.{All, all, more, recordAt, recordsTo, tKind, holds}
-use Rattle.tag.specs.Decode.{f, timesOf, decoders, decodeOne, decodeT, decodeIn, decode}
+use Rattle.tag.specs.WellFormed.{recordAt, recordsTo, tKind, holds}
+use Rattle.tag.specs.Decode.{f, timesOf, decodeOne, decodeT, decodeIn, decode}
 use Rattle.tag.proofs.Tags.{fold-own}
+use Rattle.tag.proofs.Decoding.{inside-one}
 use Rattle.state.specs.declared.RenderState.{RenderState}
 use Rattle.state.specs.Mix.{factor, between}
 use Rattle.state.specs.Apply.{applyOwn, applyTags}
@@ -47,29 +48,6 @@ decode-around r l h =
     let c = enough (length l) (length (drop (holds r) l)) (drop (holds r) l) (omega (arith, length-drop (holds r) l)) (omega arith) in
     rw (eq-eqb (r .kind) tKind h, b, c)
 
--- ---- a record's own tag has none inside it
-
-abbrev Single : Record → (Record → AnimatedTag) → Type 0
-Single r g = inside (g r) ≡ none
-
-singles : (r : Record) → All (Single r) decoders
-unfolding decoders
-singles r =
-    more refl (more refl (more refl (more refl (more refl (more refl (more refl (more refl (more refl (more refl
-    (more refl (more refl (more refl (more refl (more refl (more refl (more refl (more refl (more refl (more refl
-    (more refl (more refl (more refl (more refl (more refl (more refl (more refl (more refl (more refl (more refl
-    (more refl (more refl (more refl (more refl (more refl (more refl (more refl (more refl (more refl (more refl
-    (more refl (more refl (more refl (more refl (more refl (more refl (more refl (more refl (more refl all))))))))))))))))))))))))))))))))))))))))))))))))
-
-at-index : {A : Type 0} {P : A → Type 0} {l : List A} → All P l → (i : ℕ) (d : A) → P d → P (getD l i d)
-at-index all i d h = h
-at-index (more p l) zero d h = p
-at-index (more p l) (suc i) d h = at-index l i d h
-
-pub own-single : (r : Record) → inside (decodeOne r) ≡ none
-unfolding decodeOne
-own-single r = at-index {P = Single r} (singles r) (r .kind - 1) _ refl
-
 -- ---- tags one after the other
 
 module _ (t dur : ℤ) where
@@ -79,7 +57,7 @@ module _ (t dur : ℤ) where
 
   pub apply-own : (r : Record) (l : Tags) (st : RenderState) → applyTags t dur (and (decodeOne r) l) st ≡ applyTags t dur l (applyOwn t dur (decodeOne r) (λ s. s) st)
   unfolding applyTags
-  apply-own r l st = rw (fold-own (applyOwn t dur) (λ s. s) (λ g h s. h (g s)) (decodeOne r), own-single r)
+  apply-own r l st = rw (fold-own (applyOwn t dur) (λ s. s) (λ g h s. h (g s)) (decodeOne r), inside-one r)
 
   pub apply-around : (r : Record) (l rest : Tags) (st : RenderState) →
       applyTags t dur (and (decodeT r l) rest) st ≡ applyTags t dur rest (between (factor (timesOf (r .w1) (r .w2) (r .w3)) (f (r .w4)) t dur) st (applyTags t dur l st))
@@ -135,8 +113,8 @@ module _ (t dur : ℤ) (ws : List ℕ) where
 
   pub around-at : (at n : ℕ) (st : RenderState) → recordFrom ws at .kind ≡ tKind →
       applyTags t dur (tagsAt ws at (suc n)) st
-        ≡ applyTags t dur (tagsAt ws (at + 1 + insideOf (recordFrom ws at) n) (n - insideOf (recordFrom ws at) n))
-          (between (factor (timesOf (recordFrom ws at .w1) (recordFrom ws at .w2) (recordFrom ws at .w3)) (f (recordFrom ws at .w4)) t dur) st (applyTags t dur (tagsAt ws (at + 1) (insideOf (recordFrom ws at) n)) st))
+      ≡ applyTags t dur (tagsAt ws (at + 1 + insideOf (recordFrom ws at) n) (n - insideOf (recordFrom ws at) n))
+      (between (factor (timesOf (recordFrom ws at .w1) (recordFrom ws at .w2) (recordFrom ws at .w3)) (f (recordFrom ws at .w4)) t dur) st (applyTags t dur (tagsAt ws (at + 1) (insideOf (recordFrom ws at) n)) st))
   unfolding tagsAt recordsTo
   around-at at n st h =
       let r = recordFrom ws at in
@@ -183,4 +161,5 @@ module _ {t dur : ℤ} {ws : List ℕ} {first count : ℕ} {st : RenderState} wh
       record {
         end = rw w (omega (arith, l .end));
         less = rw w (omega (arith, l .less));
-        state = rw (w, p, q, e, w) (sym (around-at t dur ws at n post h) ∙ l .state) }
+        state = rw (w, p, q, e, w) (sym (around-at t dur ws at n post h) ∙ l .state);
+      }

@@ -37,7 +37,14 @@ fn apply_t(table: &[u32], at: usize, left: usize, st: RenderState, t: i32, dur: 
 }
 
 // The tags of the `count` records from `first` on, one after the other. A plain tag writes one group of the state, in place.
-fn apply_tags(table: &[u32], first: usize, count: usize, st: RenderState, t: i32, dur: i32) -> RenderState
+fn apply_tags(
+    table: &[u32],
+    first: usize,
+    count: usize,
+    st: RenderState,
+    t: i32,
+    dur: i32,
+) -> RenderState
     requires { ⌜ Inside (now table) first count ⌝ }
     ensures { λ r. ⌜ r ≡ applyTags t dur (tagsAt (now (table .entry)) first count) st ⌝ }
 {
@@ -121,6 +128,13 @@ pub fn evaluate_at(table: &[u32], t: i32, dur: i32) -> Evaluated
 {
     match table::check_call(table, t, dur) {
         Checked::Bad(r) => Evaluated::Refused(r),
-        Checked::Good => Evaluated::State(apply_tags(table, 0, table.len() / 8, state::identity(), t, dur)),
+        Checked::Good => Evaluated::State(apply_tags(
+            table,
+            0,
+            table.len() / 8,
+            state::identity(),
+            t,
+            dur,
+        )),
     }
 }

@@ -1,43 +1,23 @@
 -- A table's marks need no recursion: they are those of its records, one after the other.
 use mathlib.Core.Path.{_≡_, refl, sym, ap, _∙_}
 use mathlib.Core.Bool.{Bool, true, false}
-use mathlib.Core.List.{List, [], _∷_, _++_, map, append-assoc}
-use Prim.Native.Nat.{ℕ, zero, suc, _-_, _≤_}
+use mathlib.Core.List.{List, [], _∷_, _++_, append-assoc}
+use Prim.Native.Nat.{ℕ, zero, suc, _≤_}
 use native.Mathlib.Nat.{le-refl}
 use native.Mathlib.Omega.{arith}
 use lib.Dec.{eqb}
 use lib.IntN.{ℤ}
-use lib.ListN.{length, getD, take, drop, replicate, length-take, length-drop, take-append-drop, List·getD-map}
+use lib.ListN.{length, take, drop, length-take, length-drop, take-append-drop}
 use borrow.Author.Tests.{eqb-true}
 use Rattle.scan.specs.Scan.{pick}
 use Rattle.tag.specs.declared.Record.{Record}
-use Rattle.tag.specs.Tag.{AnimatedTag, Karaoke, Fill, Tags, none, and, inside}
+use Rattle.tag.specs.Tag.{AnimatedTag, Tags, none, and, inside}
 use Rattle.tag.specs.WellFormed.{tKind, holds}
 use Rattle.tag.specs.Decode.{decoders, decodeOne, decodeT, decodeIn, decode}
 use Rattle.tag.proofs.Tags.{fold-own}
+use Rattle.tag.proofs.Decoding.{inside-one}
 use Rattle.marks.specs.Marks.{Interval, ownMarks, marks}
 use Rattle.marks.specs.Inner.{recordMarks}
-
--- ---- a record alone has nothing inside
-
-same-everywhere : {A : Type 0} (n i : ℕ) (a : A) → getD (replicate n a) i a ≡ a
-same-everywhere zero i a = refl
-same-everywhere (suc n) zero a = refl
-same-everywhere (suc n) (suc i) a = same-everywhere n i a
-
-abbrev outside : Record → AnimatedTag
-outside r = Karaoke Fill 0
-
-inside-all : (r : Record) → map (λ (f : Record → AnimatedTag). inside (f r)) decoders ≡ replicate 49 none
-unfolding decoders
-inside-all r = refl
-
-inside-one : (r : Record) → inside (decodeOne r) ≡ none
-unfolding decodeOne
-inside-one r =
-    sym (List·getD-map (λ (f : Record → AnimatedTag). inside (f r)) decoders (r .kind - 1) outside)
-    ∙ ap (λ (l : List Tags). getD l (r .kind - 1) none) (inside-all r)
-    ∙ same-everywhere 49 (r .kind - 1) none
 
 module _ (dur : ℤ) where
   -- a T's own marks are those of its record alone

@@ -140,13 +140,13 @@ fn after_fad(t: i32, dur: i32, t1: u32, t2: u32) -> Mark
     }
 }
 
-// Of the record whose first word stands at i. Outside the kinds the definition reads a 0 as a 1.
+// Of the record whose first word stands at i.
 fn after_own(table: &[u32], i: usize, t: i32, dur: i32) -> Mark
     requires { ⌜ (i + 8 ≤ length (now table)) × (t <ℤ pos most) ⌝ }
     ensures { λ r. ⌜ r ≡ firstAfter t (ownMarks dur (decodeOne (recordAt (drop i (now (table .entry)))))) ⌝ }
 {
     match table[i] {
-        0 | 1 => after_fad(t, dur, table[i + 1], table[i + 2]),
+        1 => after_fad(t, dur, table[i + 1], table[i + 2]),
         2 => after_fade(t, table[i + 4], table[i + 5], table[i + 6], table[i + 7]),
         4 => after_way(t, dur, table[i + 5], table[i + 6], table[i + 7]),
         49 => after_way(t, dur, table[i + 1], table[i + 2], table[i + 3]),

@@ -1,4 +1,7 @@
 // How far a \t has come, and how a state goes over into another inside it.
+use ramp::between_bytes;
+use ramp::cut_between;
+use ramp::mix_pair;
 use state::Alphas;
 use state::Always;
 use state::ClipRect;
@@ -21,7 +24,7 @@ use tag::Record;
 ghost use mathlib.Core.Path.{_≡_};
 ghost use Rattle.scan.specs.Scan.{pick};
 ghost use Rattle.tag.specs.Decode.{timesOf, f};
-ghost use Rattle.state.specs.Mix.{startOf, endOf, ramp as rampOf, finite as finiteOf, nearZero, accelOf, bent as bentOf, held as heldOf, factor as factorOf, cutBetween, roundBetween, f32Or, i32Or, lerpBytes, mixAlphas, mixAlways, mixClips, mixColors, mixF32, mixFont, mixI32, mixLine, mixOptPair, mixOptRect, mixOptRgb, mixPair, mixPlaces, mixRect, mixRgb, mixSizes, mixStrength, mixU8, pairOr, rectOr, rgbOr, samePair, u8Or, between as betweenOf};
+ghost use Rattle.state.specs.Mix.{finite as finiteOf, nearZero, accelOf, bent as bentOf, held as heldOf, factor as factorOf, roundBetween, f32Or, i32Or, mixAlphas, mixAlways, mixClips, mixColors, mixF32, mixFont, mixI32, mixLine, mixOptPair, mixOptRect, mixOptRgb, mixPlaces, mixRect, mixRgb, mixSizes, mixStrength, mixU8, pairOr, rectOr, rgbOr, samePair, u8Or, between as betweenOf};
 
 // ---- the factor
 
@@ -69,36 +72,16 @@ fn held(raw: f32, k: f32) -> f32
     }
 }
 
-// How far t is on the way of a \t, before it is bent.
-fn raw_of(r: Record, t: i32, dur: i32) -> f32
-    ensures { λ v. ⌜ v ≡ rampOf (startOf (timesOf (r .w1) (r .w2) (r .w3))) (endOf (timesOf (r .w1) (r .w2) (r .w3)) dur) t ⌝ }
-{
-    if r.w1 == 0 {
-        ramp::ramp(0, dur, t)
-    } else {
-        ramp::ramp(float::of_word(r.w2), float::of_word(r.w3), t)
-    }
-}
-
 // How far the \t of a record has come at t, in a line of dur milliseconds.
 pub fn factor(r: Record, t: i32, dur: i32) -> f32
     ensures { λ v. ⌜ v ≡ factorOf (timesOf (r .w1) (r .w2) (r .w3)) (f (r .w4)) t dur ⌝ }
 {
-    let raw = raw_of(r, t, dur);
+    let raw = ramp::progress(r.w1, r.w2, r.w3, t, dur);
     let accel = accel_of(float::f32_of_word(r.w4));
     held(raw, bent(raw, accel))
 }
 
 // ---- numbers between two
-
-fn mix_pair(a: Pair, b: Pair, k: f32) -> Pair
-    ensures { λ r. ⌜ r ≡ mixPair a b k ⌝ }
-{
-    Pair {
-        x: float::lerp_f32(a.x, b.x, k),
-        y: float::lerp_f32(a.y, b.y, k),
-    }
-}
 
 fn mix_rect(a: ClipRect, b: ClipRect, k: f32) -> ClipRect
     ensures { λ r. ⌜ r ≡ mixRect a b k ⌝ }
@@ -109,23 +92,6 @@ fn mix_rect(a: ClipRect, b: ClipRect, k: f32) -> ClipRect
         x2: float::lerp_f32(a.x2, b.x2, k),
         y2: float::lerp_f32(a.y2, b.y2, k),
     }
-}
-
-fn between_bytes(a: u8, b: u8, k: f32) -> f32
-    ensures { λ r. ⌜ r ≡ lerpBytes a b k ⌝ }
-{
-    float::lerp_f32(
-        float::nearest_u32(a as u32),
-        float::nearest_u32(b as u32),
-        k,
-    )
-}
-
-// Colours: cut.
-fn cut_between(a: u8, b: u8, k: f32) -> u8
-    ensures { λ r. ⌜ r ≡ cutBetween a b k ⌝ }
-{
-    float::cut_byte(between_bytes(a, b, k))
 }
 
 // Alphas and \be: rounded.

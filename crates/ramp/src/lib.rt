@@ -1,18 +1,20 @@
-// How far an instant is on its way between two.
+// How far an instant is on its way between two, and what lies between two values there.
 ghost use mathlib.Core.Path.{_≡_};
-ghost use lib.IntN.{pos};
-ghost use Rattle.state.specs.Mix.{quotient as quotientOf, ramp as rampOf};
-ghost use Rattle.ramp.specs.Inner.{apart};
+ghost use mathlib.Core.Bool.{true};
+ghost use lib.IntN.{pos, _-ℤ_};
+ghost use lib.Signed.{leZ};
+ghost use Rattle.state.specs.Mix.{quotient as quotientOf, ramp as rampOf, mixPair, lerpBytes, cutBetween};
+ghost use Rattle.ramp.specs.Inner.{progressBy};
+use state::Pair;
 
-// The milliseconds from lo to hi, 0 where hi comes before lo.
-pub fn distance(lo: i32, hi: i32) -> u32
-    ensures { λ r. ⌜ r ≡ apart lo hi ⌝ }
+// ---- times
+
+// How far hi lies above lo.
+fn distance(lo: i32, hi: i32) -> u32
+    requires { ⌜ leZ lo hi ≡ true ⌝ }
+    ensures { λ r. ⌜ pos r ≡ hi -ℤ lo ⌝ }
 {
-    if lo <= hi {
-        ((hi as i64) - (lo as i64)) as u32
-    } else {
-        0
-    }
+    ((hi as i64) - (lo as i64)) as u32
 }
 
 // A quotient of milliseconds: both are rounded before they are divided.
@@ -22,8 +24,16 @@ pub fn quotient(a: u32, b: u32) -> f32
     float::nearest_u32(a) / float::nearest_u32(b)
 }
 
+// How much of the way from start to end lies behind t, which is between them.
+pub fn passed(start: i32, end: i32, t: i32) -> f32
+    requires { ⌜ (leZ start t ≡ true) × (leZ t end ≡ true) ⌝ }
+    ensures { λ r. ⌜ r ≡ quotientOf (t -ℤ start) (end -ℤ start) ⌝ }
+{
+    quotient(distance(start, t), distance(start, end))
+}
+
 // How far t is on its way from start to end.
-pub fn ramp(start: i32, end: i32, t: i32) -> f32
+fn ramp(start: i32, end: i32, t: i32) -> f32
     ensures { λ r. ⌜ r ≡ rampOf start end t ⌝ }
 {
     if end <= start {
@@ -35,5 +45,43 @@ pub fn ramp(start: i32, end: i32, t: i32) -> f32
     if t >= end {
         return 1.0;
     }
-    quotient(distance(start, t), distance(start, end))
+    passed(start, end, t)
+}
+
+// The same with the times of \move and \t, which are from 0 to dur where the flag says that there are none.
+pub fn progress(flag: u32, a: u32, b: u32, t: i32, dur: i32) -> f32
+    ensures { λ r. ⌜ r ≡ progressBy flag a b t dur ⌝ }
+{
+    if flag == 0 {
+        return ramp(0, dur, t);
+    }
+    ramp(float::of_word(a), float::of_word(b), t)
+}
+
+// ---- values
+
+pub fn mix_pair(a: Pair, b: Pair, k: f32) -> Pair
+    ensures { λ r. ⌜ r ≡ mixPair a b k ⌝ }
+{
+    Pair {
+        x: float::lerp_f32(a.x, b.x, k),
+        y: float::lerp_f32(a.y, b.y, k),
+    }
+}
+
+pub fn between_bytes(a: u8, b: u8, k: f32) -> f32
+    ensures { λ r. ⌜ r ≡ lerpBytes a b k ⌝ }
+{
+    float::lerp_f32(
+        float::nearest_u32(a as u32),
+        float::nearest_u32(b as u32),
+        k,
+    )
+}
+
+// Colours, and the alpha of \fade: cut.
+pub fn cut_between(a: u8, b: u8, k: f32) -> u8
+    ensures { λ r. ⌜ r ≡ cutBetween a b k ⌝ }
+{
+    float::cut_byte(between_bytes(a, b, k))
 }

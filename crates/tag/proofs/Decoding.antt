@@ -1,13 +1,13 @@
 -- Tags whose records can be read back: their records are a well-formed table, which decodes to them.
 use mathlib.Core.Path.{_≡_, refl, sym, ap, _∙_}
-use mathlib.Core.List.{List, [], _∷_, _++_}
+use mathlib.Core.List.{List, [], _∷_, _++_, map}
 use mathlib.Core.Bool.{Bool, true, false}
 use Prim.Native.Nat.{ℕ, zero, suc, _+_, _-_, _*_, _/_, _%_, _≤_, _<_}
 use native.Mathlib.Omega.{arith}
 use native.Mathlib.Nat.{le-refl}
 use lib.Dec.{eqb}
 use lib.Ieee.{Float}
-use lib.ListN.{length, take, drop, length-append}
+use lib.ListN.{length, getD, take, drop, replicate, length-append, List·getD-map}
 use lib.Seq.{take-at, drop-at}
 use borrow.Author.Tests.{eq-eqb, ne-eqb}
 use Rattle.scan.specs.Scan.{pick}
@@ -16,7 +16,7 @@ use Rattle.tag.specs.declared.Record.{Record}
 use Rattle.tag.specs.Tag.{mostDepth, Times, AnimatedTag, T, Tags, none, and, append, inside, count}
 use Rattle.tag.specs.Table.{width, bits, timesFlag, timesStart, timesEnd, words, tRecord, head, records, encode, tableWords, placesOf}
 use Rattle.tag.specs.WellFormed.{recordsTo, recordsOf, broken, All, all, more, InRange, tKind, holds, Nested, end, plain, around, WellFormed}
-use Rattle.tag.specs.Decode.{f, timesOf, decodeOne, decodeT, decodeIn, decode, tagsOf}
+use Rattle.tag.specs.Decode.{f, timesOf, decoders, nothing, decodeOne, decodeT, decodeIn, decode, tagsOf}
 use Rattle.tag.proofs.Tags.{encode-and, records-own, encode-none, count-length}
 use Rattle.tag.proofs.Table.{length-words}
 use Rattle.tag.proofs.Formed.{all-append}
@@ -71,6 +71,24 @@ pub sound-nested : {d : ℕ} {l : Tags} → Sound d l → Nested d (encode l)
 sound-nested empty = rw encode-none end
 sound-nested (single {x = x} {l = l} h n) = rw (single-records x (h .single) l) (plain (h .kind) (sound-nested n))
 sound-nested (nest {d = d} {t = t} {x = x} {l = l} {rest = rest} h n m) = rw (nest-records t x l rest) (nested-t d (tRecord t x (count l)) (encode l) (encode rest) refl (sym (count-length l)) (sound-nested n) (sound-nested m))
+
+-- ---- a record alone has nothing inside
+
+same-everywhere : {A : Type 0} (n i : ℕ) (a : A) → getD (replicate n a) i a ≡ a
+same-everywhere zero i a = refl
+same-everywhere (suc n) zero a = refl
+same-everywhere (suc n) (suc i) a = same-everywhere n i a
+
+inside-all : (r : Record) → map (λ (f : Record → AnimatedTag). inside (f r)) (nothing ∷ decoders) ≡ replicate 50 none
+unfolding decoders
+inside-all r = refl
+
+pub inside-one : (r : Record) → inside (decodeOne r) ≡ none
+unfolding decodeOne
+inside-one r =
+    sym (List·getD-map (λ (f : Record → AnimatedTag). inside (f r)) (nothing ∷ decoders) (r .kind) nothing)
+    ∙ ap (λ (l : List Tags). getD l (r .kind) none) (inside-all r)
+    ∙ same-everywhere 50 (r .kind) none
 
 -- ---- and back
 

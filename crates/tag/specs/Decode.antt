@@ -1,7 +1,7 @@
 -- The tags that a table's records stand for: one for each kind, in the order of the enum.
 use mathlib.Core.List.{List, [], _∷_}
 use mathlib.Core.Bool.{Bool, true, false}
-use Prim.Native.Nat.{ℕ, zero, suc, _-_}
+use Prim.Native.Nat.{ℕ, zero, suc}
 use lib.Dec.{eqb}
 use lib.IntN.{ℤ}
 use lib.Ieee.{Float, binary32, ofBits}
@@ -95,9 +95,13 @@ decoders =
     (λ r. T (timesOf (r .w1) (r .w2) (r .w3)) (f (r .w4)) none) ∷
     []
 
--- the tag of a record in range; outside the kinds there is none, and a beat of no length, which does nothing, stands for it
+-- a beat of no length, which does nothing
+abbrev pub nothing : Record → AnimatedTag
+nothing = λ r. Karaoke Fill 0
+
+-- the tag of a record in range; outside the kinds there is none, and `nothing` stands for it
 unfoldable pub decodeOne : Record → AnimatedTag
-decodeOne r = getD decoders (r .kind - 1) (λ r. Karaoke Fill 0) r
+decodeOne r = getD (nothing ∷ decoders) (r .kind) nothing r
 
 -- ---- a table
 

@@ -1,6 +1,6 @@
 use mathlib.Core.Path.{sym}
 use Rattle.apply.specs.Inner.{by, placesKinds, placesBy}
-use Rattle.apply.proofs.Ints.{seen}
+use Rattle.ramp.proofs.Ints.{seen}
 use Rattle.apply.proofs.Keys.{missed}
 use Rattle.apply.proofs.apply_places.Statement.{statement}
 use Rattle.apply.proofs.apply_places.Tie as tie

@@ -1,6 +1,6 @@
 use mathlib.Core.Path.{sym}
 use Rattle.apply.specs.Inner.{by, sizesKinds, sizesBy}
-use Rattle.apply.proofs.Ints.{answered}
+use Rattle.ramp.proofs.Ints.{answered}
 use Rattle.apply.proofs.Keys.{missed}
 use Rattle.apply.proofs.apply_sizes.Statement.{statement}
 use Rattle.apply.proofs.apply_sizes.Tie as tie

@@ -1,4 +1,4 @@
-use Rattle.apply.proofs.Ints.{seen}
+use Rattle.ramp.proofs.Ints.{seen}
 use Rattle.apply.proofs.fad.Statement.{statement}
 use Rattle.apply.proofs.fad.Tie as tie
 

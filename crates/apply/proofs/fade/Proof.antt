@@ -1,4 +1,4 @@
-use Rattle.apply.proofs.Ints.{seen, answered}
+use Rattle.ramp.proofs.Ints.{seen, answered}
 use Rattle.apply.proofs.fade.Statement.{statement}
 use Rattle.apply.proofs.fade.Tie as tie
 

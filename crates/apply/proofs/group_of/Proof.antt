@@ -1,14 +1,21 @@
-use mathlib.Core.Path.{sym}
+use mathlib.Core.Path.{_≡_, refl, sym}
+use Prim.Native.Nat.{ℕ, zero, suc}
+use native.Mathlib.Omega.{arith}
 use lib.ListN.{List·getD-eq-default}
 use Rattle.apply.specs.declared.Group.{Group}
 use Rattle.apply.specs.Inner.{groups, groupOf}
-use Rattle.apply.proofs.Keys.{past}
+use Rattle.apply.proofs.Keys.{Missed, from, past}
 use Rattle.apply.proofs.group_of.Statement.{statement}
 use Rattle.apply.proofs.group_of.Tie as tie
 
-rest : tie.Need-returns-51
+-- 0, and what is past the last
+no-kind : (k : ℕ) → Missed k Unit (from 1 49) → Group.Nothing ≡ groupOf k
 unfolding groupOf groups
-rest c = sym (List·getD-eq-default groups Group.Nothing (past _ 50 (c .match .rest)))
+no-kind zero m = refl
+no-kind (suc k) m = sym (List·getD-eq-default groups Group.Nothing (past (suc k) 1 49 m (omega arith)))
+
+rest : tie.Need-returns-50
+rest c = no-kind _ (c .match .rest)
 
 pub group-of-spec : {M : Type 1} → statement M
 unfolding groupOf groups
@@ -64,5 +71,4 @@ group-of-spec =
     (λ c. rw (c .match .keys47))
     (λ c. rw (c .match .keys48))
     (λ c. rw (c .match .keys49))
-    (λ c. rw (c .match .keys50))
     rest)

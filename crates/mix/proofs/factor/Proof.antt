@@ -7,8 +7,8 @@ use Rattle.mix.proofs.Law.{factor-is}
 use Rattle.mix.proofs.factor.Statement.{statement}
 use Rattle.mix.proofs.factor.Tie as tie
 
-raw-of-requires : tie.Need-raw-of-requires
-raw-of-requires c κs = search needs
+progress-requires : tie.Need-progress-requires
+progress-requires c κs = search needs
 
 f32-of-word-requires : tie.Need-f32-of-word-requires
 f32-of-word-requires c κs = search needs
@@ -26,14 +26,14 @@ returns : tie.Need-returns
 returns c =
     let s = c .before .before .before .before .before in
     let e = s .args in
-    let raw = rw (toZ-ofZ w32 (e .t) (s .fits .t), toZ-ofZ w32 (e .dur) (s .fits .dur)) at (c .before .before .before .before .raw-of .ensures) in
+    let raw = rw (toZ-ofZ w32 (e .t) (s .fits .t), toZ-ofZ w32 (e .dur) (s .fits .dur)) at (c .before .before .before .before .progress .ensures) in
     factor-is _ _ (e .t) (e .dur) _ _ _ _ raw (c .before .before .accel-of .ensures ∙ ap accelOf (c .before .before .before .f32-of-word .ensures)) (c .before .bent .ensures) (c .held .ensures)
 
 pub factor-spec : {M : Type 1} → statement M
 factor-spec =
     tie.close
     (tie.spec
-    raw-of-requires
+    progress-requires
     f32-of-word-requires
     accel-of-requires
     bent-requires

@@ -1,4 +1,4 @@
-use Rattle.apply.proofs.Ints.{seen}
+use Rattle.ramp.proofs.Ints.{seen}
 use lib.Ieee.{ofBits}
 use Rattle.state.specs.Apply.{fadAlpha}
 use borrow.Author.Needs.{needs}

@@ -1,6 +1,6 @@
 use lib.Signed.{leZ, ltZ}
 use Rattle.state.specs.Apply.{fadeAlpha}
-use Rattle.apply.proofs.Ints.{told, ask, seen, not-lt, le-lt}
+use Rattle.ramp.proofs.Ints.{told, ask, seen, not-lt, lt-le}
 use borrow.Author.Needs.{needs}
 use Rattle.apply.proofs.times.fade_alpha.Statement.{statement}
 use Rattle.apply.proofs.times.fade_alpha.Tie as tie
@@ -14,7 +14,7 @@ passed-requires c κs =
     let a = c .before .before .args in
     let x = c .before .before .fits in
     let h = not-lt (a .t) (a .t1) (told ltZ (x .t) (x .t1) (c .before .if1 .left)) in
-    (ask leZ (x .t1) (x .t) h, ask leZ (x .t1) (x .t2) (le-lt (a .t1) (a .t) (a .t2) h (told ltZ (x .t) (x .t2) (c .if2 .taken))))
+    (ask leZ (x .t1) (x .t) h, ask leZ (x .t) (x .t2) (lt-le (a .t) (a .t2) (told ltZ (x .t) (x .t2) (c .if2 .taken))))
 
 cut-between-requires : tie.Need-cut-between-requires
 cut-between-requires c κs = search needs
@@ -37,7 +37,7 @@ passed-requires-2 c κs =
     let a = c .before .before .before .before .args in
     let x = c .before .before .before .before .fits in
     let h = not-lt (a .t) (a .t3) (told ltZ (x .t) (x .t3) (c .before .if3 .left)) in
-    (ask leZ (x .t3) (x .t) h, ask leZ (x .t3) (x .t4) (le-lt (a .t3) (a .t) (a .t4) h (told ltZ (x .t) (x .t4) (c .if4 .taken))))
+    (ask leZ (x .t3) (x .t) h, ask leZ (x .t) (x .t4) (lt-le (a .t) (a .t4) (told ltZ (x .t) (x .t4) (c .if4 .taken))))
 
 cut-between-requires-2 : tie.Need-cut-between-requires-2
 cut-between-requires-2 c κs = search needs

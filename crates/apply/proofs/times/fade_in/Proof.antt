@@ -10,5 +10,5 @@ fade-in-spec =
     tie.close
     (tie.spec
     (λ c κs. tt)
-    (λ c. rw (lt-ltb _ _ (c .before .if1 .taken), c .ratio .ensures))
+    (λ c. rw (lt-ltb _ _ (c .before .if1 .taken), c .quotient .ensures))
     (λ c. rw (le-ltb _ _ (c .if1 .left))))

@@ -18,11 +18,11 @@ returns-2 c = rw (ne-eqb _ _ (c .before .if1 .left), le-leb _ _ (c .if2 .taken))
 less-requires : tie.Need-less-requires
 less-requires c κs = search needs
 
-sub-ratio : tie.Need-sub-ratio
-sub-ratio c = search needs
+sub-quotient : tie.Need-sub-quotient
+sub-quotient c = search needs
 
-ratio-requires : tie.Need-ratio-requires
-ratio-requires c κs = search needs
+quotient-requires : tie.Need-quotient-requires
+quotient-requires c κs = search needs
 
 clamp-requires : tie.Need-clamp-requires
 clamp-requires c κs = search needs
@@ -34,7 +34,7 @@ returns-3 c =
     let a = q .before .before .before .before .args in
     let e = q .before .less .ensures in
     let h : a .d - a .t2 < a .t = omega arith in
-    rw (ne-eqb _ _ (q .before .before .before .if1 .left), lt-leb _ _ (q .before .before .if2 .left), lt-ltb _ _ h, c .clamp .ensures, c .before .ratio .ensures)
+    rw (ne-eqb _ _ (q .before .before .before .if1 .left), lt-leb _ _ (q .before .before .if2 .left), lt-ltb _ _ h, c .clamp .ensures, c .before .quotient .ensures)
 
 returns-4 : tie.Need-returns-4
 unfolding fadeOut ofBits
@@ -51,8 +51,8 @@ fade-out-spec =
     returns
     returns-2
     less-requires
-    sub-ratio
-    ratio-requires
+    sub-quotient
+    quotient-requires
     clamp-requires
     returns-3
     returns-4)

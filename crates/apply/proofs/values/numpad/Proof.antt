@@ -1,5 +1,6 @@
 use lib.ListN.{List·getD-eq-default}
 use Prim.Native.Nat.{_≤_}
+use native.Mathlib.Omega.{arith}
 use Rattle.state.specs.Apply.{numpad}
 use Rattle.apply.proofs.Keys.{past}
 use Rattle.apply.proofs.values.numpad.Statement.{statement}
@@ -7,7 +8,7 @@ use Rattle.apply.proofs.values.numpad.Tie as tie
 
 rest : tie.Need-returns-13
 unfolding numpad
-rest c = let h : 12 ≤ c .before .args .n = past _ 12 (c .match .rest) in rw List·getD-eq-default
+rest c = let h : 12 ≤ c .before .args .n = past _ 0 12 (c .match .rest) (omega arith) in rw List·getD-eq-default
 
 pub numpad-spec : {M : Type 1} → statement M
 unfolding numpad

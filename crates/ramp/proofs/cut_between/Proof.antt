@@ -1,7 +1,7 @@
 use borrow.Author.Needs.{needs}
 use Rattle.state.specs.Mix.{cutBetween}
-use Rattle.mix.proofs.cut_between.Statement.{statement}
-use Rattle.mix.proofs.cut_between.Tie as tie
+use Rattle.ramp.proofs.cut_between.Statement.{statement}
+use Rattle.ramp.proofs.cut_between.Tie as tie
 
 returns : tie.Need-returns
 unfolding cutBetween

@@ -1,6 +1,6 @@
 use borrow.Author.Needs.{needs}
-use Rattle.mix.proofs.mix_pair.Statement.{statement}
-use Rattle.mix.proofs.mix_pair.Tie as tie
+use Rattle.ramp.proofs.mix_pair.Statement.{statement}
+use Rattle.ramp.proofs.mix_pair.Tie as tie
 
 lerp-f32-requires : tie.Need-lerp-f32-requires
 lerp-f32-requires c κs = search needs

@@ -1,7 +1,7 @@
 use borrow.Author.Tests.{ne-eqb}
-use Rattle.apply.proofs.Ints.{seen, answered}
-use Rattle.apply.proofs.progress.Statement.{statement}
-use Rattle.apply.proofs.progress.Tie as tie
+use Rattle.ramp.proofs.Ints.{seen, answered}
+use Rattle.ramp.proofs.progress.Statement.{statement}
+use Rattle.ramp.proofs.progress.Tie as tie
 
 pub progress-spec : {M : Type 1} → statement M
 progress-spec =

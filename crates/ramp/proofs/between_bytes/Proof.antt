@@ -1,7 +1,7 @@
 use borrow.Author.Needs.{needs}
 use Rattle.state.specs.Mix.{lerpBytes}
-use Rattle.mix.proofs.between_bytes.Statement.{statement}
-use Rattle.mix.proofs.between_bytes.Tie as tie
+use Rattle.ramp.proofs.between_bytes.Statement.{statement}
+use Rattle.ramp.proofs.between_bytes.Tie as tie
 
 nearest-u32-requires : tie.Need-nearest-u32-requires
 nearest-u32-requires c κs = search needs
