@@ -3,6 +3,7 @@
 pub mod block;
 pub mod drawing;
 pub mod exhaustive;
+pub mod limits;
 pub mod number;
 pub mod size;
 pub mod table;
