@@ -92,7 +92,7 @@ fn replaced(words_of: impl Fn(Class) -> Vec<u32>) -> Vec<Record> {
     records
 }
 
-/// Flags as absent times and names have them are among `joined`, not here.
+/// With a flag that wants other words too: `joined_good` has these.
 fn is_flagged(record: &Record) -> bool {
     matches!(
         (record[0], record[5], record[1]),

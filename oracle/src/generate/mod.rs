@@ -1,6 +1,7 @@
 //! Seeded generators of inputs.
 
 pub mod block;
+pub mod corners;
 pub mod drawing;
 pub mod exhaustive;
 pub mod limits;

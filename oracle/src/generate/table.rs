@@ -1,11 +1,14 @@
 //! Tables that no text was read into, well formed and damaged, and instants.
 
+use std::sync::LazyLock;
+
+use super::corners::ACCELERATIONS;
+use super::limits::bad_records;
 use super::number::PATTERNS;
+use crate::answer::record::{Record, WIDTH};
 use crate::random::Random;
 use crate::rule::refusal::{MOST_BYTES, MOST_PLACES};
 use crate::rule::table::{Class, RESET, TRANSITION, classes};
-
-const WIDTH: usize = 8;
 
 /// A well-formed table.
 pub fn well_formed(random: &mut Random) -> Vec<u32> {
@@ -48,7 +51,7 @@ fn random_kind(random: &mut Random, depth: usize) -> u32 {
     random.between(1, TRANSITION as usize - 1) as u32
 }
 
-fn record(random: &mut Random, kind: u32) -> [u32; WIDTH] {
+fn record(random: &mut Random, kind: u32) -> Record {
     let mut record = [0; WIDTH];
     record[0] = kind;
     let classes = classes(kind).expect("kinds 1 to 49 have classes");
@@ -120,7 +123,7 @@ fn named_part(random: &mut Random) -> [u32; 2] {
 }
 
 /// The words that depend on one another.
-fn join(random: &mut Random, record: &mut [u32; WIDTH]) {
+fn join(random: &mut Random, record: &mut Record) {
     match record[0] {
         4 if record[5] == 0 => record[6..].fill(0),
         12 | 26 => record[1..3].copy_from_slice(&part(random)),
@@ -147,17 +150,23 @@ fn join(random: &mut Random, record: &mut [u32; WIDTH]) {
 }
 
 fn acceleration(random: &mut Random) -> u32 {
+    let sign = (random.below(2) as u32) << 31;
     let eighths = random.below(60) as f32 / 8.0;
-    let value = *random.pick(&[
-        1.0, 1.0, 0.5, 2.0, 0.0, -0.0, -1.0, 64.0, 65.0, eighths, -eighths,
-    ]);
-    value.to_bits()
+    match random.below(4) {
+        0 => 1f32.to_bits(),
+        1 => eighths.to_bits() | sign,
+        _ => *random.pick(&ACCELERATIONS) | sign,
+    }
 }
+
+/// Made once: there are thousands.
+static BAD_RECORDS: LazyLock<Vec<Record>> = LazyLock::new(bad_records);
 
 /// One or two words changed, records moved, or the end cut or drawn out.
 pub fn damage(random: &mut Random, words: &mut Vec<u32>) {
     for _ in 0..random.between(1, 2) {
-        match random.below(8) {
+        match random.below(9) {
+            8 => replace_record(random, words),
             0 => words.truncate(random.below(words.len() + 1)),
             1 => words.extend((0..random.below(2 * WIDTH)).map(|_| 0)),
             2 => change_count(random, words),
@@ -204,6 +213,14 @@ fn change_count(random: &mut Random, words: &mut [u32]) {
         1 => random.word(),
         _ => count.wrapping_add(1),
     };
+}
+
+fn replace_record(random: &mut Random, words: &mut [u32]) {
+    if words.len() >= WIDTH {
+        let start = WIDTH * random.below(words.len() / WIDTH);
+        let bad: &Record = random.pick(BAD_RECORDS.as_slice());
+        words[start..start + WIDTH].copy_from_slice(bad);
+    }
 }
 
 fn drop_record(random: &mut Random, words: &mut Vec<u32>) {
