@@ -23,7 +23,11 @@ pub fn run(words: &[String]) -> Option<()> {
     };
     match side.as_str() {
         "library" => {
-            let answer = calls::ours(call, &inputs, times, &mut vec![0; calls::WORDS])?;
+            let answer = calls::ours(call, &inputs, times, &mut vec![0; calls::WORDS]);
+            let Some(answer) = answer else {
+                eprintln!("cost: the archives lack the call of: {kind}");
+                return None;
+            };
             assert_eq!(answer >> 48, 0, "the input is not refused");
             Some(())
         }
@@ -65,8 +69,9 @@ fn text_of(kind: &str, bytes: usize) -> Option<(Call, String)> {
     Some((call, repeated(front, piece, bytes)))
 }
 
-/// A text of so many records and the instant: amid the changes for evaluation, before them for
-/// the marks, so that the Rust's states are walked from 60 to 91 or to the end of the line.
+/// A text of so many records and the instant: amid the changes for evaluation; for the marks some
+/// time before one, so that the Rust walks from 400 to 801 in a flat line, from 60 to 91 in a nested
+/// one, and to the end of a line of one tag.
 fn line_of(kind: &str, records: usize) -> Option<(Call, String, i32)> {
     Some(match kind {
         "evaluate-flat" => (Call::Evaluate, flat(records), 120),
