@@ -215,6 +215,15 @@ mod tests {
     }
 
     #[test]
+    fn a_refusal_writes_nothing_and_a_state_92_words() {
+        for case in Evaluate.fixed() {
+            let answer = Evaluate.answer(&case);
+            let words = if answer.result == 0 { STATE_WORDS } else { 0 };
+            assert_eq!(answer.written.len(), words, "{}", case.describe());
+        }
+    }
+
+    #[test]
     fn random_cases_answer_and_some_are_refused() {
         let mut numbers = [0; 10];
         for case in 0..20_000 {
