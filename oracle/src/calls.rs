@@ -162,3 +162,30 @@ fn each<T>(inputs: &[Input], times: u32, mut call: impl FnMut(&Input) -> T) {
         }
     }
 }
+
+#[cfg(test)]
+mod tests {
+    use super::*;
+    use crate::texts::{flat, nested};
+
+    fn change(text: String, t: i32) -> Option<i32> {
+        next_change(&Input::lines(vec![text], &[t], 1_000)[0])
+    }
+
+    #[test]
+    fn states_are_walked_to_the_next_that_differs() {
+        assert_eq!(change(flat(10), 400), Some(801));
+        assert_eq!(change(nested(10), -20), Some(10));
+        assert_eq!(change(flat(1), 400), None);
+    }
+
+    #[test]
+    fn a_line_holds_what_both_sides_take() {
+        let inputs = Input::lines(vec![nested(9), flat(3)], &[5, 6], 100);
+        let held: Vec<(i32, usize, usize)> = inputs
+            .iter()
+            .map(|input| (input.t, input.records(), input.cue.tags.len()))
+            .collect();
+        assert_eq!(held, [(5, 9, 1), (6, 9, 1), (5, 3, 3), (6, 3, 3)]);
+    }
+}

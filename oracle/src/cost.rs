@@ -70,14 +70,14 @@ fn text_of(kind: &str, bytes: usize) -> Option<(Call, String)> {
 }
 
 /// A text of so many records and the instant: amid the changes for evaluation; for the marks some
-/// time before one, so that the Rust walks from 400 to 801 in a flat line, from 60 to 91 in a nested
-/// one, and to the end of a line of one tag.
+/// time before one, so that the Rust walks from 400 to 801 in a flat line and from -20 to 10 in a
+/// nested one, but to the end of a line of one tag, as that does not move.
 fn line_of(kind: &str, records: usize) -> Option<(Call, String, i32)> {
     Some(match kind {
-        "evaluate-flat" => (Call::Evaluate, flat(records), 120),
-        "evaluate-nested" => (Call::Evaluate, nested(records), 120),
+        "evaluate-flat" => (Call::Evaluate, flat(records), 50),
+        "evaluate-nested" => (Call::Evaluate, nested(records), 50),
         "marks-flat" => (Call::NextMark, flat(records), 400),
-        "marks-nested" => (Call::NextMark, nested(records), 60),
+        "marks-nested" => (Call::NextMark, nested(records), -20),
         _ => return None,
     })
 }

@@ -114,8 +114,8 @@ pub fn nested(records: usize) -> String {
     while left > 0 {
         let group = left.min(9);
         let depth = group.min(8);
-        let tag = if group == 9 { "\\fs36" } else { "" };
-        text += &"\\t(90,900,2,".repeat(depth);
+        let tag = if group == 9 { "\\frz9" } else { "" };
+        text += &"\\t(9,90,.5,".repeat(depth);
         text += tag;
         text += &")".repeat(depth);
         left -= group;
