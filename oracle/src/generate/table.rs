@@ -7,7 +7,7 @@ use super::limits::bad_records;
 use super::number::PATTERNS;
 use crate::answer::record::{Record, WIDTH};
 use crate::random::Random;
-use crate::rule::refusal::{MOST_BYTES, MOST_PLACES};
+use crate::rule::refusal::{self, MOST_BYTES, MOST_PLACES};
 use crate::rule::table::{Class, RESET, TRANSITION, classes};
 
 /// A well-formed table.
@@ -43,9 +43,10 @@ fn records(random: &mut Random, words: &mut Vec<u32>, count: usize, depth: usize
     }
 }
 
-/// Often a T, as long as it may still nest.
+/// Often a T, as long as it may still nest; inside one more often.
 fn random_kind(random: &mut Random, depth: usize) -> u32 {
-    if depth < 8 && random.one_in(4) {
+    let chances = if depth == 0 { 4 } else { 2 };
+    if depth < 8 && random.one_in(chances) {
         return TRANSITION;
     }
     random.between(1, TRANSITION as usize - 1) as u32
@@ -235,6 +236,10 @@ pub fn instant(random: &mut Random, words: &[u32]) -> i32 {
     match random.below(16) {
         0..=5 if !words.is_empty() => {
             let word = *random.pick(words) as i32;
+            // Most far ones are bits of a float.
+            if refusal::instants(&[word]).is_some() && !random.one_in(8) {
+                return time(random);
+            }
             word.wrapping_add(random.below(3) as i32 - 1)
         }
         6 => *random.pick(&[1_000_000_000, -1_000_000_000, 1_000_000_001, -1_000_000_001]),
@@ -274,5 +279,21 @@ mod tests {
             .collect();
         assert_eq!(kinds, (1..=49).collect());
         assert!(tables.iter().any(|table| table.len() > 2_000));
+        let deep = tables.iter().filter(|table| depth(table) == 8).count();
+        assert!(deep > 5, "{deep}");
+    }
+
+    /// How deep \t are nested.
+    fn depth(table: &[u32]) -> usize {
+        let mut ends: Vec<usize> = Vec::new();
+        let mut deepest = 0;
+        for (place, record) in table.chunks_exact(WIDTH).enumerate() {
+            ends.retain(|&end| end > place);
+            if record[0] == TRANSITION {
+                ends.push(place + 1 + record[5] as usize);
+                deepest = deepest.max(ends.len());
+            }
+        }
+        deepest
     }
 }

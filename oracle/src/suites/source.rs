@@ -62,7 +62,7 @@ impl Source {
             }
             _ => well_formed(random),
         };
-        if random.one_in(6) {
+        if random.one_in(4) {
             damage(random, &mut words);
         }
         Source::of_words(words)
