@@ -8,7 +8,7 @@ use crate::generate::drawing::drawing;
 use crate::generate::limits::faulty_tables;
 use crate::generate::table::well_formed;
 use crate::random::Random;
-use crate::rule::table::TRANSITION;
+use crate::rule::table::has_transition;
 use crate::suites::source::Source;
 use crate::texts::{self, DEEP, DRAWN_MIX, MIXED, NUMERALS, longest};
 
@@ -31,7 +31,7 @@ impl Inputs {
         let (nested, flat) = block_texts().into_iter().partition(|text| with_t(text));
         let faulty = faulty_tables().into_iter().map(|(table, _)| table);
         let all = tables().into_iter().chain(faulty);
-        let (nested_tables, flat_tables) = all.partition(|table| has_t(table));
+        let (nested_tables, flat_tables) = all.partition(|table| has_transition(table));
         let drawings = drawing_texts();
         let scaled = drawings.iter().map(|text| [b"2,", &text[..]].concat());
         Inputs {
@@ -65,10 +65,6 @@ fn tables() -> Vec<Vec<u32>> {
         &deep.expect("the texts of lines are read").words,
     ));
     tables
-}
-
-fn has_t(table: &[u32]) -> bool {
-    table.iter().step_by(8).any(|&kind| kind == TRANSITION)
 }
 
 fn block_texts() -> Vec<Vec<u8>> {

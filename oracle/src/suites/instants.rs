@@ -6,7 +6,7 @@ use crate::generate::corners::{DURATIONS, accelerated, fades, fads, short_texts,
 use crate::generate::limits::{faulty_records, faulty_tables, good_tables};
 use crate::rule::marks::around;
 use crate::rule::refusal::FARTHEST;
-use crate::rule::table::TRANSITION;
+use crate::rule::table::has_transition;
 
 /// Instants beyond the range, at its ends, and around 0.
 const INSTANTS: [i32; 9] = [
@@ -62,9 +62,9 @@ fn single_tags() -> impl Iterator<Item = Case> {
     fads.chain(fades.flat_map(|fade| at_durations(&fade, &[0, 1_000])))
 }
 
+/// The lines with each \t's acceleration replaced.
 fn accelerations() -> impl Iterator<Item = Case> {
-    let moving =
-        sources().filter(|source| source.words.iter().step_by(8).any(|&k| k == TRANSITION));
+    let moving = sources().filter(|source| has_transition(&source.words));
     moving.flat_map(|source| {
         let tables: Vec<Vec<u32>> = accelerated(&source.words).collect();
         let sources = tables.into_iter().map(Source::of_words);
