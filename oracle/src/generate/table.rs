@@ -3,7 +3,7 @@
 use std::sync::LazyLock;
 
 use super::corners::ACCELERATIONS;
-use super::limits::bad_records;
+use super::limits::{bad_records, whole};
 use super::number::PATTERNS;
 use crate::answer::record::{Record, WIDTH};
 use crate::random::Random;
@@ -166,7 +166,8 @@ static BAD_RECORDS: LazyLock<Vec<Record>> = LazyLock::new(bad_records);
 /// One or two words changed, records moved, or the end cut or drawn out.
 pub fn damage(random: &mut Random, words: &mut Vec<u32>) {
     for _ in 0..random.between(1, 2) {
-        match random.below(9) {
+        match random.below(10) {
+            9 => wrap(random, words),
             8 => replace_record(random, words),
             0 => words.truncate(random.below(words.len() + 1)),
             1 => words.extend((0..random.below(2 * WIDTH)).map(|_| 0)),
@@ -221,6 +222,17 @@ fn replace_record(random: &mut Random, words: &mut [u32]) {
         let start = WIDTH * random.below(words.len() / WIDTH);
         let bad: &Record = random.pick(BAD_RECORDS.as_slice());
         words[start..start + WIDTH].copy_from_slice(bad);
+    }
+}
+
+/// One to nine T around a table that is not long.
+fn wrap(random: &mut Random, words: &mut Vec<u32>) {
+    let count = words.len() / WIDTH;
+    if count < 100 {
+        let depth = random.between(1, 9);
+        let around = (count..count + depth).rev();
+        let front = around.flat_map(|inside| whole(inside as u32));
+        words.splice(..0, front.collect::<Vec<u32>>());
     }
 }
 
@@ -281,6 +293,20 @@ mod tests {
         assert!(tables.iter().any(|table| table.len() > 2_000));
         let deep = tables.iter().filter(|table| depth(table) == 8).count();
         assert!(deep > 5, "{deep}");
+    }
+
+    #[test]
+    fn tables_are_wrapped_too_deep_at_times() {
+        let mut depths = HashSet::new();
+        for case in 0..100 {
+            let random = &mut Random::new(3, case);
+            let mut words = vec![42, 700, 0, 0, 0, 0, 0, 0];
+            wrap(random, &mut words);
+            let found = depth(&words);
+            assert_eq!(fault(&words), (found == 9).then_some(8));
+            depths.insert(found);
+        }
+        assert_eq!(depths, (1..=9).collect());
     }
 
     /// How deep \t are nested.
