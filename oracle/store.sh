@@ -18,4 +18,6 @@ sample blocks 48 2000
 sample blocks 7 1000
 sample drawings 3 1200
 sample clips 3 400
+sample evaluate 5 800
+sample marks 5 600
 mv "$work/stdin" "$work/stdout" "$list"

@@ -5,7 +5,7 @@ use crate::suite::Settings;
 pub const USAGE: &str = "\
 usage: compare SUITE [--seed S] [--count N] [--random-only] [--self]
        compare sample SUITE [--seed S] [--count N] --inputs FILE --answers FILE
-       compare cost KIND BYTES SIDE TIMES
+       compare cost KIND SIZE SIDE TIMES
        compare bench [--rounds N] [--only WORDS] [--require]
        compare row NAME SIDE TIMES
        compare stack

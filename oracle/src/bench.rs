@@ -1,6 +1,6 @@
 //! Times the Rust and ours on the same texts, in turn; see README.md.
 
-use crate::calls::{self, Call};
+use crate::calls::{self, Call, Input};
 use crate::clock::timed;
 use crate::texts::{self, DEEP, DRAWN_MIX, MIXED, NUMERALS};
 
@@ -14,7 +14,7 @@ const BATCH: f64 = 2e6;
 pub struct Row {
     pub name: &'static str,
     pub call: Call,
-    pub texts: Vec<String>,
+    pub inputs: Vec<Input>,
     /// Ours refuses the texts; the Rust reads them.
     pub refused: bool,
 }
@@ -30,9 +30,10 @@ impl Row {
     }
 
     fn check(&self, lent: &mut [u32]) -> Option<()> {
-        for text in &self.texts {
-            let answer = calls::ours(self.call, std::slice::from_ref(text), 1, lent)?;
-            assert_eq!(answer >> 48 != 0, self.refused, "{}: {text:.80}", self.name);
+        for input in &self.inputs {
+            let answer = calls::ours(self.call, std::slice::from_ref(input), 1, lent)?;
+            let (name, text) = (self.name, &input.text);
+            assert_eq!(answer >> 48 != 0, self.refused, "{name}: {text:.80}");
         }
         Some(())
     }
@@ -42,8 +43,16 @@ fn row(name: &'static str, call: Call, texts: Vec<String>) -> Row {
     Row {
         name,
         call,
-        texts,
+        inputs: Input::texts(texts),
         refused: false,
+    }
+}
+
+/// What the texts read as, at instants from the first to the last of a line.
+fn lines(name: &'static str, call: Call, texts: Vec<String>) -> Row {
+    Row {
+        inputs: Input::lines(texts, &[0, 100, 1_500, 2_900], 3_000),
+        ..row(name, call, Vec::new())
     }
 }
 
@@ -55,11 +64,43 @@ fn refused(name: &'static str, texts: Vec<String>) -> Row {
 }
 
 pub fn rows() -> Vec<Row> {
+    let mut rows = reading_rows();
+    rows.extend(line_rows());
+    rows
+}
+
+fn deep() -> Vec<String> {
+    vec![format!("{DEEP}\\fscx120\\frz-12.5)\\1a&H40&)))))))")]
+}
+
+/// Tables that were read before, evaluated or asked for the next mark.
+fn line_rows() -> Vec<Row> {
+    use Call::{Evaluate, NextMark};
+    let (typical, scripts) = (texts::typical(), texts::scripts());
+    let flat = vec![texts::flat(1_000)];
+    let fast = vec![texts::accelerated(1_000)];
+    vec![
+        lines("evaluate typical lines", Evaluate, typical.clone()),
+        lines("evaluate script lines", Evaluate, scripts.clone()),
+        lines("evaluate a thousand flat tags", Evaluate, flat.clone()),
+        lines("evaluate eight \\t deep", Evaluate, deep()),
+        lines(
+            "evaluate 12 KB eight \\t deep",
+            Evaluate,
+            vec![texts::deep()],
+        ),
+        lines("evaluate many accelerated \\t", Evaluate, fast),
+        lines("next mark of typical lines", NextMark, typical),
+        lines("next mark of script lines", NextMark, scripts),
+        lines("next mark of a thousand tags", NextMark, flat),
+    ]
+}
+
+fn reading_rows() -> Vec<Row> {
     use Call::{Clip, Drawing, Overrides, Raw};
     let (typical, scripts, drawings) = (texts::typical(), texts::scripts(), texts::drawings());
     let (braced, scaled) = (texts::in_braces(&typical), texts::with_scale(&drawings));
     let long = |front, piece| vec![texts::longest(front, piece)];
-    let deep = vec![format!("{DEEP}\\fscx120\\frz-12.5)\\1a&H40&)))))))")];
     let pairs = "123.5 -45.25 ";
     vec![
         row("typical short blocks", Overrides, typical),
@@ -68,7 +109,7 @@ pub fn rows() -> Vec<Row> {
         row("script blocks, raw call", Raw, texts::in_braces(&scripts)),
         row("a thousand mixed tags", Overrides, long("", MIXED)),
         row("12 KB of numerals", Overrides, long("", NUMERALS)),
-        row("eight \\t deep", Overrides, deep),
+        row("eight \\t deep", Overrides, deep()),
         row("12 KB eight \\t deep", Overrides, vec![texts::deep()]),
         refused("refused short blocks", texts::refused()),
         refused("refused 12 KB blocks", texts::refused_long()),
@@ -128,11 +169,12 @@ pub fn run(words: &[String]) -> Option<bool> {
         "row", "bytes", "Rust ns", "ours ns", "Rust/ours"
     );
     let mut lent = vec![0; calls::WORDS];
-    let mut slow = Vec::new();
+    let (mut slow, mut absent) = (Vec::new(), false);
     for row in &rows {
         if row.check(&mut lent).is_none() {
             eprintln!("bench: the archives lack the call of: {}", row.name);
-            return None;
+            absent = true;
+            continue;
         }
         let measured = measure(row, options.rounds, &mut lent);
         measured.print(row);
@@ -143,7 +185,7 @@ pub fn run(words: &[String]) -> Option<bool> {
     for row in &slow {
         println!("below {:.2}: {}", row.least(), row.name);
     }
-    Some(slow.is_empty() || !options.require)
+    (!absent).then_some(slow.is_empty() || !options.require)
 }
 
 /// One side alone on a row's texts, for a profiler to watch; `None`: bad words, or the archives
@@ -156,9 +198,9 @@ pub fn run_row(words: &[String]) -> Option<()> {
     let row = rows().into_iter().find(|row| row.name == name)?;
     match side.as_str() {
         "library" => {
-            calls::ours(row.call, &row.texts, times, &mut vec![0; calls::WORDS])?;
+            calls::ours(row.call, &row.inputs, times, &mut vec![0; calls::WORDS])?;
         }
-        "rust" => calls::rust(row.call, &row.texts, times),
+        "rust" => calls::rust(row.call, &row.inputs, times),
         _ => return None,
     }
     Some(())
@@ -173,7 +215,8 @@ struct Measured {
 
 impl Measured {
     fn print(&self, row: &Row) {
-        let bytes = quartiles(row.texts.iter().map(|text| text.len() as f64).collect())[1];
+        let bytes = row.inputs.iter().map(|input| input.text.len() as f64);
+        let bytes = quartiles(bytes.collect())[1];
         let [low, middle, high] = self.ratio;
         println!(
             "{:<32} {bytes:>5} {:>11.1} {:>11.1} {middle:>9.2}  {low:.2} to {high:.2}",
@@ -183,45 +226,64 @@ impl Measured {
 }
 
 fn measure(row: &Row, rounds: usize, lent: &mut [u32]) -> Measured {
-    let times = times(row, lent);
-    let calls = f64::from(times) * row.texts.len() as f64;
-    let rounds = (0..rounds).map(|number| round(row, times, number % 2 == 0, lent));
+    let batch = Batch::of(row, lent);
+    let rounds = (0..rounds).map(|number| batch.round(row, number % 2 == 0, lent));
     let rounds: Vec<(f64, f64)> = rounds.collect();
     let middle = |numbers: Vec<f64>| quartiles(numbers)[1];
     Measured {
-        rust: middle(rounds.iter().map(|&(rust, _)| rust / calls).collect()),
-        ours: middle(rounds.iter().map(|&(_, ours)| ours / calls).collect()),
+        rust: middle(rounds.iter().map(|&(rust, _)| rust).collect()),
+        ours: middle(rounds.iter().map(|&(_, ours)| ours).collect()),
         ratio: quartiles(rounds.iter().map(|&(rust, ours)| rust / ours).collect()),
     }
 }
 
-/// How often the texts are gone through for the faster side to take a batch's time.
-fn times(row: &Row, lent: &mut [u32]) -> u32 {
-    let mut times = 1;
-    loop {
-        let (rust, ours) = round(row, times, false, lent);
-        if rust.min(ours) >= BATCH {
-            return times;
+/// How often each side goes through the inputs in its batch.
+struct Batch {
+    rust: u32,
+    ours: u32,
+}
+
+impl Batch {
+    /// As often as each side needs to take a batch's time.
+    fn of(row: &Row, lent: &mut [u32]) -> Batch {
+        Batch {
+            rust: times(|times| by_rust(row, times)),
+            ours: times(|times| by_ours(row, times, lent)),
         }
-        times *= 2;
+    }
+
+    /// A batch of each side: nanoseconds of a call of the Rust and of ours.
+    fn round(&self, row: &Row, rust_first: bool, lent: &mut [u32]) -> (f64, f64) {
+        let a_call = |time: f64, times: u32| time / (f64::from(times) * row.inputs.len() as f64);
+        let rust = || a_call(by_rust(row, self.rust), self.rust);
+        let mut ours = || a_call(by_ours(row, self.ours, lent), self.ours);
+        if rust_first {
+            let rust = rust();
+            (rust, ours())
+        } else {
+            let ours = ours();
+            (rust(), ours)
+        }
     }
 }
 
-/// A batch of each side: the times of the Rust's and of ours.
-fn round(row: &Row, times: u32, rust_first: bool, lent: &mut [u32]) -> (f64, f64) {
-    let by_rust = || timed(|| calls::rust(row.call, &row.texts, times));
-    let mut by_ours = || {
-        timed(|| {
-            calls::ours(row.call, &row.texts, times, lent);
-        })
-    };
-    if rust_first {
-        let rust = by_rust();
-        (rust, by_ours())
-    } else {
-        let ours = by_ours();
-        (by_rust(), ours)
+fn by_rust(row: &Row, times: u32) -> f64 {
+    timed(|| calls::rust(row.call, &row.inputs, times))
+}
+
+fn by_ours(row: &Row, times: u32, lent: &mut [u32]) -> f64 {
+    timed(|| {
+        calls::ours(row.call, &row.inputs, times, lent);
+    })
+}
+
+/// How often the work is done to take a batch's time.
+fn times(mut work: impl FnMut(u32) -> f64) -> u32 {
+    let mut times = 1;
+    while work(times) < BATCH {
+        times *= 2;
     }
+    times
 }
 
 fn quartiles(mut numbers: Vec<f64>) -> [f64; 3] {
@@ -241,7 +303,7 @@ mod tests {
     fn ours_answers_and_refuses_as_each_row_says() {
         let mut lent = vec![0; calls::WORDS];
         for row in rows() {
-            calls::rust(row.call, &row.texts, 1);
+            calls::rust(row.call, &row.inputs, 1);
             let _ = row.check(&mut lent);
         }
     }
@@ -253,6 +315,12 @@ mod tests {
         assert!(run("clip arguments", "rust").is_some());
         assert!(run("clip", "rust").is_none());
         assert!(run("clip arguments", "c").is_none());
+    }
+
+    #[test]
+    fn a_batch_takes_its_time() {
+        assert_eq!(times(|times| f64::from(times) * BATCH / 3.0), 4);
+        assert_eq!(times(|_| BATCH), 1);
     }
 
     #[test]

@@ -1,33 +1,38 @@
-//! One call, some number of times, on a text of a given kind and size: what cost.sh counts the
-//! instructions of.
+//! One call, some number of times, on a text or a table of a given kind and size: what cost.sh
+//! counts the instructions of.
 
-use crate::calls::{self, Call};
-use crate::texts::{DEEP, MIXED, repeated};
+use crate::calls::{self, Call, Input};
+use crate::texts::{DEEP, MIXED, flat, nested, repeated};
 
 const USAGE: &str = "\
-usage: compare cost KIND BYTES SIDE TIMES
-KIND: typical, flat, nested, unclosed, lines, spline, clip, scaled
+usage: compare cost KIND SIZE SIDE TIMES
+KIND: typical, flat, nested, unclosed, lines, spline, clip, scaled (SIZE in bytes),
+      evaluate-flat, evaluate-nested, marks-flat, marks-nested (SIZE in records)
 SIDE: library, rust";
 
 /// `None`: the words are no such command, or the library lacks the call.
 pub fn run(words: &[String]) -> Option<()> {
-    let [kind, bytes, side, times] = words else {
+    let [kind, size, side, times] = words else {
         return usage();
     };
-    let (Ok(bytes), Ok(times)) = (bytes.parse(), times.parse()) else {
+    let (Ok(size), Ok(times)) = (size.parse(), times.parse()) else {
         return usage();
     };
-    let Some((call, text)) = kind_of(kind, bytes) else {
+    let Some((call, inputs)) = kind_of(kind, size) else {
         return usage();
     };
     match side.as_str() {
         "library" => {
-            let answer = calls::ours(call, &[text], times, &mut vec![0; calls::WORDS])?;
-            assert_eq!(answer >> 48, 0, "the text is read");
+            let answer = calls::ours(call, &inputs, times, &mut vec![0; calls::WORDS]);
+            let Some(answer) = answer else {
+                eprintln!("cost: the archives lack the call of: {kind}");
+                return None;
+            };
+            assert_eq!(answer >> 48, 0, "the input is not refused");
             Some(())
         }
         "rust" => {
-            calls::rust(call, &[text], times);
+            calls::rust(call, &inputs, times);
             Some(())
         }
         _ => usage(),
@@ -39,8 +44,17 @@ fn usage() -> Option<()> {
     None
 }
 
-/// The call, and a text of exactly so many bytes with at most 1,024 tags or commands.
-fn kind_of(kind: &str, bytes: usize) -> Option<(Call, String)> {
+/// The call, and an input of the size.
+fn kind_of(kind: &str, size: usize) -> Option<(Call, Vec<Input>)> {
+    if let Some((call, text)) = text_of(kind, size) {
+        return Some((call, Input::texts(vec![text])));
+    }
+    let (call, text, t) = line_of(kind, size)?;
+    Some((call, Input::lines(vec![text], &[t], 1_000)))
+}
+
+/// A text of exactly so many bytes with at most 1,024 tags or commands.
+fn text_of(kind: &str, bytes: usize) -> Option<(Call, String)> {
     let (call, front, piece) = match kind {
         "typical" => (Call::Overrides, "", MIXED),
         "flat" => (Call::Overrides, "", "\\pos(123.5,-45.25)\\fscx120.5"),
@@ -53,6 +67,19 @@ fn kind_of(kind: &str, bytes: usize) -> Option<(Call, String)> {
         _ => return None,
     };
     Some((call, repeated(front, piece, bytes)))
+}
+
+/// A text of so many records and the instant: amid the changes for evaluation; for the marks some
+/// time before one, so that the Rust walks from 400 to 801 in a flat line and from -20 to 10 in a
+/// nested one, but to the end of a line of one tag, as that does not move.
+fn line_of(kind: &str, records: usize) -> Option<(Call, String, i32)> {
+    Some(match kind {
+        "evaluate-flat" => (Call::Evaluate, flat(records), 50),
+        "evaluate-nested" => (Call::Evaluate, nested(records), 50),
+        "marks-flat" => (Call::NextMark, flat(records), 400),
+        "marks-nested" => (Call::NextMark, nested(records), -20),
+        _ => return None,
+    })
 }
 
 #[cfg(test)]
@@ -68,9 +95,19 @@ mod tests {
         let kinds = "typical flat nested unclosed lines spline clip scaled";
         for kind in words(kinds) {
             for bytes in [30, 4096] {
-                assert_eq!(kind_of(&kind, bytes).unwrap().1.len(), bytes);
+                assert_eq!(kind_of(&kind, bytes).unwrap().1[0].text.len(), bytes);
                 assert!(run(&words(&format!("{kind} {bytes} rust 1"))).is_some());
             }
+        }
+    }
+
+    #[test]
+    fn the_rust_takes_every_kind_of_line() {
+        for kind in words("evaluate-flat evaluate-nested marks-flat marks-nested") {
+            for records in [1, 10, 100, 1_000] {
+                assert_eq!(kind_of(&kind, records).unwrap().1[0].records(), records);
+            }
+            assert!(run(&words(&format!("{kind} 10 rust 1"))).is_some());
         }
     }
 

@@ -70,6 +70,9 @@ const WORD_BEFORE: u32 = 0xA5A5_A5A5;
 mod tests {
     use super::*;
     use crate::suites::blocks::{Blocks, Case};
+    use crate::suites::evaluate::{self, Evaluate};
+    use crate::suites::marks::Marks;
+    use crate::suites::source::Source;
 
     fn lines(raw: bool, words: usize, text: &[u8]) -> (String, String) {
         let case = Case {
@@ -78,6 +81,30 @@ mod tests {
             text: text.to_vec(),
         };
         (Blocks.input_line(&case), answer_line(&Blocks, &case))
+    }
+
+    #[test]
+    fn lines_of_tables_have_the_stated_form() {
+        let case = evaluate::Case {
+            source: Source::of_words(vec![43, 1, 0, 0, 0, 0, 0, 0]),
+            t: -1,
+            duration: 10,
+        };
+        let zeros = " 00000000".repeat(6);
+        let words = format!("ffffffff 0000000a 0000002b 00000001{zeros} ");
+        assert_eq!(Evaluate.input_line(&case), format!("E {words}"));
+        assert_eq!(Marks.input_line(&case), format!("M {words}"));
+        let state = answer_line(&Evaluate, &case);
+        assert!(state.starts_with("0000000000000000 3f800000 00000000 "));
+        assert_eq!(state.len(), 16 + 9 * 92);
+        assert_eq!(answer_line(&Marks, &case), "0000000100000000");
+        let far = evaluate::Case {
+            t: i32::MAX,
+            ..case
+        };
+        let untouched = " a5a5a5a5".repeat(92);
+        let refused = format!("0006000000000000{untouched}");
+        assert_eq!(answer_line(&Evaluate, &far), refused);
     }
 
     #[test]

@@ -1,8 +1,10 @@
 //! Seeded generators of inputs.
 
 pub mod block;
+pub mod corners;
 pub mod drawing;
 pub mod exhaustive;
+pub mod limits;
 pub mod number;
 pub mod size;
 pub mod table;

@@ -1,11 +1,14 @@
 //! Tables that no text was read into, well formed and damaged, and instants.
 
-use super::number::PATTERNS;
-use crate::random::Random;
-use crate::rule::refusal::{MOST_BYTES, MOST_PLACES};
-use crate::rule::table::{Class, RESET, TRANSITION, classes};
+use std::sync::LazyLock;
 
-const WIDTH: usize = 8;
+use super::corners::ACCELERATIONS;
+use super::limits::{bad_records, whole};
+use super::number::PATTERNS;
+use crate::answer::record::{Record, WIDTH};
+use crate::random::Random;
+use crate::rule::refusal::{self, MOST_BYTES, MOST_PLACES};
+use crate::rule::table::{Class, RESET, TRANSITION, classes};
 
 /// A well-formed table.
 pub fn well_formed(random: &mut Random) -> Vec<u32> {
@@ -40,15 +43,16 @@ fn records(random: &mut Random, words: &mut Vec<u32>, count: usize, depth: usize
     }
 }
 
-/// Often a T, as long as it may still nest.
+/// Often a T, as long as it may still nest; inside one more often.
 fn random_kind(random: &mut Random, depth: usize) -> u32 {
-    if depth < 8 && random.one_in(4) {
+    let chances = if depth == 0 { 4 } else { 2 };
+    if depth < 8 && random.one_in(chances) {
         return TRANSITION;
     }
     random.between(1, TRANSITION as usize - 1) as u32
 }
 
-fn record(random: &mut Random, kind: u32) -> [u32; WIDTH] {
+fn record(random: &mut Random, kind: u32) -> Record {
     let mut record = [0; WIDTH];
     record[0] = kind;
     let classes = classes(kind).expect("kinds 1 to 49 have classes");
@@ -120,7 +124,7 @@ fn named_part(random: &mut Random) -> [u32; 2] {
 }
 
 /// The words that depend on one another.
-fn join(random: &mut Random, record: &mut [u32; WIDTH]) {
+fn join(random: &mut Random, record: &mut Record) {
     match record[0] {
         4 if record[5] == 0 => record[6..].fill(0),
         12 | 26 => record[1..3].copy_from_slice(&part(random)),
@@ -147,17 +151,24 @@ fn join(random: &mut Random, record: &mut [u32; WIDTH]) {
 }
 
 fn acceleration(random: &mut Random) -> u32 {
+    let sign = (random.below(2) as u32) << 31;
     let eighths = random.below(60) as f32 / 8.0;
-    let value = *random.pick(&[
-        1.0, 1.0, 0.5, 2.0, 0.0, -0.0, -1.0, 64.0, 65.0, eighths, -eighths,
-    ]);
-    value.to_bits()
+    match random.below(4) {
+        0 => 1f32.to_bits(),
+        1 => eighths.to_bits() | sign,
+        _ => *random.pick(&ACCELERATIONS) | sign,
+    }
 }
+
+/// Made once: there are thousands.
+static BAD_RECORDS: LazyLock<Vec<Record>> = LazyLock::new(bad_records);
 
 /// One or two words changed, records moved, or the end cut or drawn out.
 pub fn damage(random: &mut Random, words: &mut Vec<u32>) {
     for _ in 0..random.between(1, 2) {
-        match random.below(8) {
+        match random.below(10) {
+            9 => wrap(random, words),
+            8 => replace_record(random, words),
             0 => words.truncate(random.below(words.len() + 1)),
             1 => words.extend((0..random.below(2 * WIDTH)).map(|_| 0)),
             2 => change_count(random, words),
@@ -206,6 +217,25 @@ fn change_count(random: &mut Random, words: &mut [u32]) {
     };
 }
 
+fn replace_record(random: &mut Random, words: &mut [u32]) {
+    if words.len() >= WIDTH {
+        let start = WIDTH * random.below(words.len() / WIDTH);
+        let bad: &Record = random.pick(BAD_RECORDS.as_slice());
+        words[start..start + WIDTH].copy_from_slice(bad);
+    }
+}
+
+/// One to nine T around a table that is not long.
+fn wrap(random: &mut Random, words: &mut Vec<u32>) {
+    let count = words.len() / WIDTH;
+    if count < 100 {
+        let depth = random.between(1, 9);
+        let around = (count..count + depth).rev();
+        let front = around.flat_map(|inside| whole(inside as u32));
+        words.splice(..0, front.collect::<Vec<u32>>());
+    }
+}
+
 fn drop_record(random: &mut Random, words: &mut Vec<u32>) {
     if words.len() >= WIDTH {
         let start = WIDTH * random.below(words.len() / WIDTH);
@@ -218,6 +248,10 @@ pub fn instant(random: &mut Random, words: &[u32]) -> i32 {
     match random.below(16) {
         0..=5 if !words.is_empty() => {
             let word = *random.pick(words) as i32;
+            // Most far ones are bits of a float.
+            if refusal::instants(&[word]).is_some() && !random.one_in(8) {
+                return time(random);
+            }
             word.wrapping_add(random.below(3) as i32 - 1)
         }
         6 => *random.pick(&[1_000_000_000, -1_000_000_000, 1_000_000_001, -1_000_000_001]),
@@ -257,5 +291,35 @@ mod tests {
             .collect();
         assert_eq!(kinds, (1..=49).collect());
         assert!(tables.iter().any(|table| table.len() > 2_000));
+        let deep = tables.iter().filter(|table| depth(table) == 8).count();
+        assert!(deep > 5, "{deep}");
+    }
+
+    #[test]
+    fn tables_are_wrapped_too_deep_at_times() {
+        let mut depths = HashSet::new();
+        for case in 0..100 {
+            let random = &mut Random::new(3, case);
+            let mut words = vec![42, 700, 0, 0, 0, 0, 0, 0];
+            wrap(random, &mut words);
+            let found = depth(&words);
+            assert_eq!(fault(&words), (found == 9).then_some(8));
+            depths.insert(found);
+        }
+        assert_eq!(depths, (1..=9).collect());
+    }
+
+    /// How deep \t are nested.
+    fn depth(table: &[u32]) -> usize {
+        let mut ends: Vec<usize> = Vec::new();
+        let mut deepest = 0;
+        for (place, record) in table.chunks_exact(WIDTH).enumerate() {
+            ends.retain(|&end| end > place);
+            if record[0] == TRANSITION {
+                ends.push(place + 1 + record[5] as usize);
+                deepest = deepest.max(ends.len());
+            }
+        }
+        deepest
     }
 }

@@ -13,6 +13,17 @@ pub fn next_mark(words: &[u32], t: i32, duration: i32) -> Option<i64> {
         .min()
 }
 
+/// Instants at both ends of each record's marks, beside them and between them; some of them lie
+/// beyond the range of instants.
+pub fn around(words: &[u32], duration: i32) -> Vec<i64> {
+    let records = words.chunks_exact(WIDTH);
+    let marks = records.flat_map(|record| own_marks(record, i64::from(duration)));
+    let mut instants: Vec<i64> = marks.flat_map(Marks::around).collect();
+    instants.sort_unstable();
+    instants.dedup();
+    instants
+}
+
 /// Marks `from` to `to`; none where `to` is below `from`.
 #[derive(Clone, Copy)]
 struct Marks {
@@ -42,6 +53,25 @@ impl Marks {
         } else {
             Marks::one(mark)
         }
+    }
+
+    /// A ramp starts one before its first mark.
+    fn around(self) -> [i64; 10] {
+        let Marks { from, to } = self;
+        let third = (to - from) / 3;
+        let (low, high) = (from + third, to - third);
+        [
+            from - 2,
+            from - 1,
+            from,
+            from + 1,
+            low,
+            high,
+            high + 1,
+            to - 1,
+            to,
+            to + 1,
+        ]
     }
 
     fn after(self, t: i64) -> Option<i64> {
@@ -108,6 +138,16 @@ mod tests {
         assert_eq!(next_mark(&jump, 500, 0), None);
         assert_eq!(next_mark(&fad, -5, 250), Some(0));
         assert_eq!(next_mark(&[], 0, 0), None);
+    }
+
+    #[test]
+    fn instants_stand_around_every_mark() {
+        let jump = [49, 1, 500, 500, 0x3F80_0000, 0, 0, 0];
+        assert_eq!(around(&jump, 0), [498, 499, 500, 501]);
+        let fad = [1, 200, 0, 0, 0, 0, 0, 0];
+        let instants = [-1, 0, 1, 2, 67, 134, 135, 199, 200, 201];
+        assert_eq!(around(&fad, 1_000), instants);
+        assert_eq!(around(&[42, 700, 0, 0, 0, 0, 0, 0], 5), []);
     }
 
     #[test]

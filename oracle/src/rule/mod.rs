@@ -7,3 +7,4 @@ pub mod marks;
 pub mod numeral;
 pub mod refusal;
 pub mod table;
+pub mod walk;

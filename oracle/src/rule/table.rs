@@ -8,6 +8,11 @@ const DEEPEST: usize = 8;
 pub const RESET: u32 = 41;
 pub const TRANSITION: u32 = 49;
 
+/// Whether one of the records is a T.
+pub fn has_transition(words: &[u32]) -> bool {
+    words.iter().step_by(WIDTH).any(|&kind| kind == TRANSITION)
+}
+
 /// What a word of a record may be.
 #[derive(Clone, Copy)]
 pub enum Class {

@@ -1,13 +1,18 @@
-//! What the calls are measured on: short, long, refused and random texts.
+//! What the calls are measured on: short, long, refused and random texts and tables.
 
 use super::painted::Arguments;
 use crate::calls::WORDS;
 use crate::generate::block::{block, nested_block, raw_block};
+use crate::generate::corners;
 use crate::generate::drawing::drawing;
+use crate::generate::limits::faulty_tables;
+use crate::generate::table::well_formed;
 use crate::random::Random;
+use crate::rule::table::has_transition;
+use crate::suites::source::Source;
 use crate::texts::{self, DEEP, DRAWN_MIX, MIXED, NUMERALS, longest};
 
-/// What is lent to the calls: texts, and words with room for every record.
+/// What is lent to the calls: texts, tables, and words with room for every record.
 pub struct Inputs {
     /// Blocks without \t.
     pub flat: Vec<Vec<u8>>,
@@ -15,12 +20,18 @@ pub struct Inputs {
     pub nested: Vec<Vec<u8>>,
     pub drawings: Vec<Vec<u8>>,
     pub clips: Vec<Vec<u8>>,
+    /// Tables without \t, some of them at fault.
+    pub flat_tables: Vec<Vec<u32>>,
+    pub nested_tables: Vec<Vec<u32>>,
     pub words: Vec<u32>,
 }
 
 impl Inputs {
     pub fn new() -> Self {
         let (nested, flat) = block_texts().into_iter().partition(|text| with_t(text));
+        let faulty = faulty_tables().into_iter().map(|(table, _)| table);
+        let all = tables().into_iter().chain(faulty);
+        let (nested_tables, flat_tables) = all.partition(|table| has_transition(table));
         let drawings = drawing_texts();
         let scaled = drawings.iter().map(|text| [b"2,", &text[..]].concat());
         Inputs {
@@ -28,6 +39,8 @@ impl Inputs {
             nested,
             clips: drawings.iter().cloned().chain(scaled).collect(),
             drawings,
+            flat_tables,
+            nested_tables,
             words: vec![0; WORDS],
         }
     }
@@ -37,6 +50,21 @@ impl Inputs {
 fn with_t(text: &[u8]) -> bool {
     let pairs = text.windows(2);
     pairs.into_iter().any(|two| two == b"\\t" || two == b"\\T")
+}
+
+/// Tables of blocks and of lines, random ones, and each \t of some with every acceleration.
+fn tables() -> Vec<Vec<u32>> {
+    let made = [texts::flat, texts::nested, texts::accelerated].map(|text| text(1_000));
+    let texts = block_texts().into_iter().chain(corners::texts());
+    let texts = texts.chain(made.map(String::into_bytes));
+    let read = texts.filter_map(Source::of_text).map(|source| source.words);
+    let mut tables: Vec<Vec<u32>> = read.collect();
+    tables.extend((0..500).map(|case| well_formed(&mut Random::new(1, case))));
+    let deep = corners::texts().last().and_then(Source::of_text);
+    tables.extend(corners::accelerated(
+        &deep.expect("the texts of lines are read").words,
+    ));
+    tables
 }
 
 fn block_texts() -> Vec<Vec<u8>> {
@@ -126,6 +154,17 @@ pub fn clips(texts: &[Vec<u8>]) -> Vec<Arguments> {
     let inputs = texts.iter().map(|text| {
         let [address, bytes] = bytes_of(text);
         [address, bytes, 0, 0, 0, 0, 0, 0]
+    });
+    inputs.collect()
+}
+
+/// Each table at instants before, amid and behind what changes, and at one that is refused.
+pub fn lines(tables: &[Vec<u32>], words: &mut [u32]) -> Vec<Arguments> {
+    let state = words.as_mut_ptr() as u64;
+    let inputs = tables.iter().flat_map(|table| {
+        let (address, count) = (table.as_ptr() as u64, table.len() as u64);
+        let at = move |t: i32| [address, count, t as u64, 1_000, state, 0, 0, 0];
+        [-1, 150, 450, 1_000, i32::MAX].map(at)
     });
     inputs.collect()
 }

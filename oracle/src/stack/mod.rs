@@ -4,7 +4,7 @@ mod inputs;
 mod painted;
 
 use crate::library;
-use inputs::{Inputs, clips, drawings, reading};
+use inputs::{Inputs, clips, drawings, lines, reading};
 use painted::{Arguments, Painted};
 
 const KB: usize = 1_024;
@@ -29,6 +29,10 @@ fn rows(inputs: &mut Inputs) -> Vec<Row> {
     let nested = reading(&inputs.nested, &mut inputs.words);
     let drawings = drawings(&inputs.drawings, &mut inputs.words);
     let clips = clips(&inputs.clips);
+    let evaluate = library::hannuvel_evaluate_at().map(|call| call as *const ());
+    let mark = library::hannuvel_next_mark().map(|call| call as *const ());
+    let flat_lines = lines(&inputs.flat_tables, &mut inputs.words);
+    let nested_lines = lines(&inputs.nested_tables, &mut inputs.words);
     let row = |name, function, inputs: &[Arguments], most| Row {
         name,
         function,
@@ -42,6 +46,15 @@ fn rows(inputs: &mut Inputs) -> Vec<Row> {
         row("parse_raw_block, to eight \\t", raw, &nested, 8 * KB),
         row("parse_drawing", drawing, &drawings, 4 * KB),
         row("split_clip_arg", clip, &clips, KB),
+        row("evaluate_at, no \\t", evaluate, &flat_lines, 16 * KB),
+        row(
+            "evaluate_at, to eight \\t",
+            evaluate,
+            &nested_lines,
+            16 * KB,
+        ),
+        row("next_mark, no \\t", mark, &flat_lines, KB),
+        row("next_mark, to eight \\t", mark, &nested_lines, KB),
     ]
 }
 

@@ -1,12 +1,14 @@
 //! Evaluation against the Rust.
 
+use super::instants;
 use super::source::Source;
-use crate::answer::decode::tags;
 use crate::answer::state::{STATE_WORDS, with_named_bytes, words};
 use crate::built::animate::{CueAnimation, RenderState};
+use crate::generate::corners::DURATIONS;
 use crate::generate::table::instant;
 use crate::library::hannuvel_evaluate_at;
 use crate::random::Random;
+use crate::rule::marks::around;
 use crate::rule::refusal;
 use crate::sample::{Sampled, line, short_sample};
 use crate::shrink::Cases;
@@ -25,9 +27,14 @@ pub struct Case {
 impl Case {
     pub fn random(random: &mut Random) -> Case {
         let source = Source::random(random);
+        let duration = if random.one_in(4) {
+            *random.pick(&DURATIONS)
+        } else {
+            instant(random, &source.words)
+        };
         Case {
-            t: instant(random, &source.words),
-            duration: instant(random, &source.words),
+            t: instant_of(random, &source.words, duration),
+            duration,
             source,
         }
     }
@@ -40,10 +47,7 @@ impl Case {
 
     /// The state of the Rust, with strings spelled by their parts.
     pub fn state(&self) -> RenderState {
-        let cue = CueAnimation {
-            tags: tags(&self.source.words),
-        };
-        let state = cue.evaluate_at(self.t, self.duration);
+        let state = self.source.cue().evaluate_at(self.t, self.duration);
         self.check_names(&state);
         state
     }
@@ -94,6 +98,15 @@ impl Case {
     }
 }
 
+/// Half of the instants stand at or beside a mark, or between marks.
+fn instant_of(random: &mut Random, words: &[u32], duration: i32) -> i32 {
+    let marks = around(words, duration);
+    if marks.is_empty() || random.one_in(2) {
+        return instant(random, words);
+    }
+    *random.pick(&marks) as i32
+}
+
 fn simpler_instants(instant: i32) -> impl Iterator<Item = i32> {
     let rank = |instant: i32| (instant.unsigned_abs(), instant < 0);
     let simpler = [0, 1, 100, 1_000, instant / 2, instant - instant.signum()].into_iter();
@@ -114,7 +127,7 @@ impl Suite for Evaluate {
     }
 
     fn fixed(&self) -> Cases<'_, Case> {
-        Box::new(std::iter::empty())
+        Box::new(instants::cases())
     }
 
     fn random(&self, random: &mut Random) -> Case {
@@ -199,6 +212,15 @@ mod tests {
         assert_eq!(size_at(2.0, 500), 25.0);
         assert_eq!(size_at(0.5, 250), 30.0);
         assert_eq!(size_at(1.1, 300).to_bits(), 0x41CA_ACEF);
+    }
+
+    #[test]
+    fn a_refusal_writes_nothing_and_a_state_92_words() {
+        for case in Evaluate.fixed() {
+            let answer = Evaluate.answer(&case);
+            let words = if answer.result == 0 { STATE_WORDS } else { 0 };
+            assert_eq!(answer.written.len(), words, "{}", case.describe());
+        }
     }
 
     #[test]

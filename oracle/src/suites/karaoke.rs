@@ -1,9 +1,7 @@
 //! Karaoke spans against the Rust.
 
 use super::source::Source;
-use crate::answer::decode::tags;
 use crate::answer::record::karaoke_kind;
-use crate::built::animate::CueAnimation;
 use crate::generate::size::lent_words;
 use crate::library::hannuvel_karaoke_spans;
 use crate::random::Random;
@@ -24,10 +22,7 @@ pub struct Case {
 }
 
 fn spans(source: &Source) -> Vec<u32> {
-    let cue = CueAnimation {
-        tags: tags(&source.words),
-    };
-    let spans = cue.karaoke_spans();
+    let spans = source.cue().karaoke_spans();
     let words = spans
         .iter()
         .map(|span| [karaoke_kind(span.kind), span.start_ms, span.end_ms]);

@@ -1,24 +1,37 @@
 //! The next-mark call against the rule (the Rust has none).
 
 use super::evaluate::Case;
+use super::instants;
 use crate::library::hannuvel_next_mark;
 use crate::random::Random;
 use crate::rule::marks::next_mark;
 use crate::rule::refusal;
+use crate::rule::walk::wrong;
 use crate::sample::{Sampled, line, short_sample};
 use crate::shrink::Cases;
 use crate::suite::{Answer, Suite};
 
 pub struct Marks;
 
+/// So many milliseconds are walked at most before the next mark.
+const STEPS: usize = 20;
+
 fn mark(case: &Case) -> u64 {
-    match next_mark(&case.source.words, case.t, case.duration) {
+    let next = next_mark(&case.source.words, case.t, case.duration);
+    check(case, next);
+    match next {
         Some(mark) => {
             let mark = i32::try_from(mark).expect("a mark after an instant in range fits");
             refusal::answered(0, mark as u32)
         }
         None => refusal::answered(1, 0),
     }
+}
+
+/// The walk over the milliseconds and the Rust's states.
+fn check(case: &Case, next: Option<i64>) {
+    let wrong = wrong(&case.source.cue(), case.t, case.duration, next, STEPS);
+    assert_eq!(wrong, None, "{next:?} {}", case.describe());
 }
 
 impl Suite for Marks {
@@ -32,7 +45,7 @@ impl Suite for Marks {
     }
 
     fn fixed(&self) -> Cases<'_, Case> {
-        Box::new(std::iter::empty())
+        Box::new(instants::cases().chain(instants::walked()))
     }
 
     fn random(&self, random: &mut Random) -> Case {
@@ -70,5 +83,43 @@ impl Sampled for Marks {
 
     fn sample(&self, random: &mut Random) -> Case {
         short_sample(self, random, |case| case.source.words.len())
+    }
+}
+
+#[cfg(test)]
+mod tests {
+    use super::*;
+    use crate::suites::source::Source;
+
+    fn after(table: &[u32], t: i32, duration: i32) -> u64 {
+        let source = Source::of_words(table.to_vec());
+        let case = Case {
+            source,
+            t,
+            duration,
+        };
+        Marks.answer(&case).result
+    }
+
+    #[test]
+    fn marks_are_packed_as_the_call_packs_them() {
+        let jump = |t: i32| [49, 1, t as u32, t as u32, 0, 0, 0, 0];
+        assert_eq!(after(&jump(-7), -8, 0), 0xFFFF_FFF9);
+        assert_eq!(after(&jump(-7), -7, 0), 1 << 32);
+        assert_eq!(after(&[], 0, 1_000_000_001), 6 << 48);
+        assert_eq!(after(&[0; 9], i32::MIN, 0), 5 << 48);
+    }
+
+    #[test]
+    fn a_mark_may_lie_beyond_the_range_of_instants() {
+        let fad = [1, i32::MAX as u32, 0, 0, 0, 0, 0, 0];
+        assert_eq!(after(&fad, 1_000_000_000, 0), 1_000_000_001);
+    }
+
+    #[test]
+    fn the_fixed_cases_pass_the_walk() {
+        let answers = Marks.fixed().map(|case| Marks.answer(&case).result);
+        let marks = answers.filter(|result| result >> 32 == 0).count();
+        assert!(marks > 20_000, "{marks}");
     }
 }

@@ -4,6 +4,7 @@ pub mod blocks;
 pub mod clips;
 pub mod drawings;
 pub mod evaluate;
+pub mod instants;
 pub mod karaoke;
 pub mod leaves;
 pub mod marks;

@@ -1,8 +1,10 @@
 //! Tables for the calls that take one: read from a text, made up, or damaged.
 
 use super::blocks;
-use crate::built::animate::{AnimatedTag, parse_overrides};
+use crate::answer::decode::tags;
+use crate::built::animate::{AnimatedTag, CueAnimation, parse_overrides};
 use crate::generate::block::{block, nested_block};
+use crate::generate::corners::corner;
 use crate::generate::table::{damage, of_size, well_formed};
 use crate::hex::{hex_words, show_text};
 use crate::random::Random;
@@ -22,7 +24,7 @@ pub struct Source {
 
 impl Source {
     /// The table of a text; `None` where reading it is refused.
-    fn of_text(text: Vec<u8>) -> Option<Source> {
+    pub fn of_text(text: Vec<u8>) -> Option<Source> {
         if refusal::text(&text).is_some() {
             return None;
         }
@@ -38,16 +40,16 @@ impl Source {
         })
     }
 
-    fn of_words(words: Vec<u32>) -> Source {
+    pub fn of_words(words: Vec<u32>) -> Source {
         Source { words, text: None }
     }
 
     pub fn random(random: &mut Random) -> Source {
         if random.one_in(2) {
-            let text = if random.one_in(4) {
-                nested_block(random)
-            } else {
-                block(random)
+            let text = match random.below(16) {
+                0 => corner(random),
+                1..=4 => nested_block(random),
+                _ => block(random),
             };
             if let Some(source) = Source::of_text(text) {
                 return source;
@@ -60,10 +62,17 @@ impl Source {
             }
             _ => well_formed(random),
         };
-        if random.one_in(6) {
+        if random.one_in(4) {
             damage(random, &mut words);
         }
         Source::of_words(words)
+    }
+
+    /// The tags of a well-formed table, with strings spelled by their parts.
+    pub fn cue(&self) -> CueAnimation {
+        CueAnimation {
+            tags: tags(&self.words),
+        }
     }
 
     /// The tags as the Rust reads them, with their own strings.

@@ -27,6 +27,38 @@ pub const MIXED: &str = "\\an8\\pos(320,50)\\fad(200,200)\\1c&HF2E6D8&\\3c&H3A2B
     \\t(0,300,\\fscx120\\1a&H40&)\\k25\\org(640.5,360.5)\\i1\\fade(255,0,255,0,300,2000,2400)\
     \\iclip(m 0 0 l 80 0 80 40 0 40)\\rDefault";
 
+/// Tags of many kinds without \t, twelve bytes to a tag.
+const FLAT: [&str; 23] = [
+    "\\an8",
+    "\\pos(320,50)",
+    "\\fad(200,200)",
+    "\\1c&HF2E6D8&",
+    "\\b1",
+    "\\fs36",
+    "\\blur0.6",
+    "\\fscx110",
+    "\\frz-12.5",
+    "\\fnTimes",
+    "\\move(1,4,5,4,0,250)",
+    "\\clip(1,2,54,28)",
+    "\\1a&H40&",
+    "\\be1",
+    "\\k25",
+    "\\org(640.5,360.5)",
+    "\\i1",
+    "\\fade(255,0,255,0,300,2000,2400)",
+    "\\iclip(m 0 0 l 8 0)",
+    "\\bord2",
+    "\\fsp1.5",
+    "\\3c&H3A2B1C&",
+    "\\pbo3",
+];
+
+/// So many tags without \t.
+pub fn flat(records: usize) -> String {
+    FLAT.iter().cycle().take(records).copied().collect()
+}
+
 /// Numerals of up to nine and nine digits.
 pub const NUMERALS: &str = "\\pos(123456789.987654321,-640.123456789)\\fscx98765432.1\
     \\pos(0.000123456,999999999)\\fscx100.123456789";
@@ -61,6 +93,34 @@ pub fn deep() -> String {
     let mut text = longest(DEEP, "\\fscx123.25\\frz(-123.500)   ");
     text.truncate(text.len() - 8);
     text + &")".repeat(8)
+}
+
+/// So many records of accelerated \t, each with one tag inside.
+pub fn accelerated(records: usize) -> String {
+    const PIECES: [&str; 4] = [
+        "\\t(0,2999,1.5,\\fs9)",
+        "\\t(0,2000,0.3,\\frz9)",
+        "\\t(7.53125,\\bord2)",
+        "\\t(90,2950,3,\\be2)",
+    ];
+    let pieces = PIECES.iter().cycle().take(records / 2);
+    pieces.copied().collect()
+}
+
+/// So many records in groups of eight \t, one inside the other, around a tag.
+pub fn nested(records: usize) -> String {
+    let mut text = String::new();
+    let mut left = records;
+    while left > 0 {
+        let group = left.min(9);
+        let depth = group.min(8);
+        let tag = if group == 9 { "\\frz9" } else { "" };
+        text += &"\\t(9,90,.5,".repeat(depth);
+        text += tag;
+        text += &")".repeat(depth);
+        left -= group;
+    }
+    text
 }
 
 /// Short blocks that 01 refuses: an exponent, ten digits before or behind the point, a far \fade.
@@ -143,6 +203,15 @@ mod tests {
         assert_eq!(kept(&longest("", NUMERALS)) % 4, 0);
         assert!(kept(&deep()) > 800);
         assert_eq!(kept(&repeated(DEEP, "\\b1", 40)), 10);
+    }
+
+    #[test]
+    fn blocks_have_the_records_asked_for() {
+        for records in [1, 8, 9, 10, 100, 1_000] {
+            assert_eq!(kept(&flat(records)), records);
+            assert_eq!(kept(&nested(records)), records);
+        }
+        assert_eq!(kept(&accelerated(1_000)), 1_000);
     }
 
     #[test]
