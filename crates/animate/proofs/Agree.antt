@@ -164,16 +164,18 @@ module _ (s : List ℕ) (x : Span) (inside : SpanIn s x) (t u dur : ℤ) where
     own : Hold r → InRange t → InRange u → InRange dur → StateIs (r .first .one) (r .second .one) (evaluateAt t dur l) × StateIs (r .first .other) (r .second .other) (evaluateAt u dur l)
     own h i j d =
         let f = held p (h .n) (h .first) in
-        let g = held q (h .m) (h .second) in
-        (record { first = ap (λ (v : Seen). v .state) (p .one) ∙ state-is f d t i; second = ap (λ (v : Seen). v .state) (q .one) ∙ state-is g d t i },
-        record { first = ap (λ (v : Seen). v .state) (p .other) ∙ state-is f d u j; second = ap (λ (v : Seen). v .state) (q .other) ∙ state-is g d u j })
+        let g = held q (h .m) (h .second) in (
+          record { first = ap (λ (v : Seen). v .state) (p .one) ∙ state-is f d t i; second = ap (λ (v : Seen). v .state) (q .one) ∙ state-is g d t i },
+          record { first = ap (λ (v : Seen). v .state) (p .other) ∙ state-is f d u j; second = ap (λ (v : Seen). v .state) (q .other) ∙ state-is g d u j },
+        )
 
     next : Hold r → InRange t → InRange u → InRange dur → NextIs l dur t (r .first .one) (r .second .one) (nextMark t dur l) × NextIs l dur u (r .first .other) (r .second .other) (nextMark u dur l)
     next h i j d =
         let f = held p (h .n) (h .first) in
-        let g = held q (h .m) (h .second) in
-        (record { first = ap (λ (v : Seen). v .next) (p .one) ∙ next-is f d t i; second = ap (λ (v : Seen). v .next) (q .one) ∙ next-is g d t i; earliest = next-earliest t dur l },
-        record { first = ap (λ (v : Seen). v .next) (p .other) ∙ next-is f d u j; second = ap (λ (v : Seen). v .next) (q .other) ∙ next-is g d u j; earliest = next-earliest u dur l })
+        let g = held q (h .m) (h .second) in (
+          record { first = ap (λ (v : Seen). v .next) (p .one) ∙ next-is f d t i; second = ap (λ (v : Seen). v .next) (q .one) ∙ next-is g d t i; earliest = next-earliest t dur l },
+          record { first = ap (λ (v : Seen). v .next) (p .other) ∙ next-is f d u j; second = ap (λ (v : Seen). v .next) (q .other) ∙ next-is g d u j; earliest = next-earliest u dur l },
+        )
 
     pub agreed : Agreed s x a b t u dur r a′ b′
     agreed = record {
@@ -183,7 +185,8 @@ module _ (s : List ℕ) (x : Span) (inside : SpanIn s x) (t u dur : ℤ) where
       space = λ e. (space p e, space q e);
       states = λ h i j d n. let o = own h i j d in (o .0, o .1, unmoved n);
       own = own;
-      next = next }
+      next = next;
+    }
 
 -- ---- any well-formed table, read or not: the next mark is exact
 

@@ -67,11 +67,23 @@ fn controller(text: &[u8], raw: bool, table: &mut [u32], t: i32, u: i32, dur: i3
     let n = words_in(reading);
     let one = look(&table[..], n, t, dur);
     let other = look(&table[..], n, u, dur);
-    Told { reading, one, other }
+    Told {
+        reading,
+        one,
+        other,
+    }
 }
 
 // Demand 3, whole: two controllers, tables of any sizes and any old contents, one block, any duration, any two instants.
-pub fn two_controllers(text: &[u8], raw: bool, a: &mut [u32], b: &mut [u32], t: i32, u: i32, dur: i32) -> Both
+pub fn two_controllers(
+    text: &[u8],
+    raw: bool,
+    a: &mut [u32],
+    b: &mut [u32],
+    t: i32,
+    u: i32,
+    dur: i32,
+) -> Both
     ensures { λ r. ⌜ Agreed (now (text .entry)) (spanOf raw (now (text .entry))) (now (a .entry)) (now (b .entry)) t u dur r (now (a .exit)) (now (b .exit)) ⌝ }
 {
     let first = controller(text, raw, a, t, u, dur);

@@ -2,6 +2,7 @@
 ghost use mathlib.Core.Path.{_≡_};
 ghost use Prim.Native.Nat.{_<_};
 ghost use Rattle.table.specs.Inner.{Inside};
+ghost use Rattle.tag.specs.Tag.{times};
 ghost use Rattle.state.specs.Apply.{applyTags};
 ghost use Rattle.evaluate.specs.Inner.{tagsAt, insideOf, aroundOf};
 ghost use Rattle.evaluate.specs.Evaluate.{evaluated};
@@ -25,15 +26,58 @@ fn inside(r: Record, n: usize) -> usize
     if m < n { m } else { n }
 }
 
-// The T at the index `at`, with `left` records from there on: part of the way from st to what the tags inside it make of it.
-fn apply_t(table: &[u32], at: usize, left: usize, st: RenderState, t: i32, dur: i32) -> RenderState
+// The T at the index `at` from start to end, with `left` records from there on: part of the way from the state a to what the tags inside it
+// make of it. As in the Rust, each group of fields goes over by itself.
+fn apply_t(
+    table: &[u32],
+    at: usize,
+    left: usize,
+    start: i32,
+    end: i32,
+    a: RenderState,
+    t: i32,
+    dur: i32,
+) -> RenderState
     requires { ⌜ (0 < left) × Inside (now table) at left ⌝ }
-    ensures { λ r. ⌜ r ≡ aroundOf t dur (now (table .entry)) at left st ⌝ }
+    ensures { λ r. ⌜ r ≡ aroundOf t dur (now (table .entry)) at left (times start end) a ⌝ }
 {
     let r = table::record_at(table, at);
-    let n = inside(r, left - 1);
-    let post = apply_tags(table, at + 1, n, st, t, dur);
-    mix::between(mix::factor(r, t, dur), st, post)
+    let b = apply_tags(table, at + 1, inside(r, left - 1), a, t, dur);
+    let k = mix::factor(r.w4, start, end, t);
+    let a_always = a.always;
+    let b_always = b.always;
+    let a_places = a.places;
+    let b_places = b.places;
+    let a_clips = a.clips;
+    let b_clips = b.clips;
+    let a_sizes = a.sizes;
+    let b_sizes = b.sizes;
+    let a_colors = a.colors;
+    let b_colors = b.colors;
+    let a_alphas = a.alphas;
+    let b_alphas = b.alphas;
+    let a_line = a.line;
+    let b_line = b.line;
+    let a_font = a.font;
+    let b_font = b.font;
+    let always = mix::mix_always(a_always, b_always, k);
+    let places = mix::mix_places(a_places, b_places, k);
+    let clips = mix::mix_clips(a_clips, b_clips, k);
+    let sizes = mix::mix_sizes(a_sizes, b_sizes, k);
+    let colors = mix::mix_colors(a_colors, b_colors, k);
+    let alphas = mix::mix_alphas(a_alphas, b_alphas, k);
+    let line = mix::mix_line(a_line, b_line, k);
+    let font = mix::mix_font(a_font, b_font, k);
+    RenderState {
+        always,
+        places,
+        clips,
+        sizes,
+        colors,
+        alphas,
+        line,
+        font,
+    }
 }
 
 // The tags of the `count` records from `first` on, one after the other. A plain tag writes one group of the state, in place.
@@ -112,10 +156,25 @@ fn apply_tags(
                 left -= 1;
             }
             Group::T => {
-                post = apply_t(table, at, left, post, t, dur);
                 let n = 1 + inside(r, left - 1);
-                at += n;
-                left -= n;
+                if r.w1 == 0 {
+                    post = apply_t(table, at, left, 0, dur, post, t, dur);
+                    at += n;
+                    left -= n;
+                } else {
+                    post = apply_t(
+                        table,
+                        at,
+                        left,
+                        float::of_word(r.w2),
+                        float::of_word(r.w3),
+                        post,
+                        t,
+                        dur,
+                    );
+                    at += n;
+                    left -= n;
+                }
             }
         }
     }

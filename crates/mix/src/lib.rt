@@ -23,8 +23,9 @@ use state::Sizes;
 use tag::Record;
 ghost use mathlib.Core.Path.{_≡_};
 ghost use Rattle.scan.specs.Scan.{pick};
-ghost use Rattle.tag.specs.Decode.{timesOf, f};
-ghost use Rattle.state.specs.Mix.{finite as finiteOf, nearZero, accelOf, bent as bentOf, held as heldOf, factor as factorOf, roundBetween, f32Or, i32Or, mixAlphas, mixAlways, mixClips, mixColors, mixF32, mixFont, mixI32, mixLine, mixOptPair, mixOptRect, mixOptRgb, mixPlaces, mixRect, mixRgb, mixSizes, mixStrength, mixU8, pairOr, rectOr, rgbOr, samePair, u8Or, between as betweenOf};
+ghost use Rattle.tag.specs.Tag.{times};
+ghost use Rattle.tag.specs.Decode.{f};
+ghost use Rattle.state.specs.Mix.{finite as finiteOf, nearZero, accelOf, bent as bentOf, held as heldOf, factor as factorOf, roundBetween, f32Or, i32Or, mixAlphas, mixAlways, mixClips, mixColors, mixF32, mixFont, mixI32, mixLine, mixOptPair, mixOptRect, mixOptRgb, mixPlaces, mixRect, mixRgb, mixSizes, mixStrength, mixU8, pairOr, rectOr, rgbOr, samePair, u8Or};
 
 // ---- the factor
 
@@ -72,13 +73,13 @@ fn held(raw: f32, k: f32) -> f32
     }
 }
 
-// How far the \t of a record has come at t, in a line of dur milliseconds.
-pub fn factor(r: Record, t: i32, dur: i32) -> f32
-    ensures { λ v. ⌜ v ≡ factorOf (timesOf (r .w1) (r .w2) (r .w3)) (f (r .w4)) t dur ⌝ }
+// How far a \t from start to end has come at t, with the bits of its acceleration.
+pub fn factor(accel: u32, start: i32, end: i32, t: i32) -> f32
+    ensures { λ v. ⌜ v ≡ factorOf (times start end) (f accel) t end ⌝ }
 {
-    let raw = ramp::progress(r.w1, r.w2, r.w3, t, dur);
-    let accel = accel_of(float::f32_of_word(r.w4));
-    held(raw, bent(raw, accel))
+    let raw = ramp::ramp(start, end, t);
+    let a = accel_of(float::f32_of_word(accel));
+    held(raw, bent(raw, a))
 }
 
 // ---- numbers between two
@@ -229,7 +230,7 @@ fn mix_strength(a: u8, b: u8, k: f32) -> u8
     if a == b { a } else { round_between(a, b, k) }
 }
 
-fn mix_always(a: Always, b: Always, k: f32) -> Always
+pub fn mix_always(a: Always, b: Always, k: f32) -> Always
     ensures { λ r. ⌜ r ≡ mixAlways a b k ⌝ }
 {
     let a_scale = a.scale;
@@ -256,7 +257,7 @@ fn mix_always(a: Always, b: Always, k: f32) -> Always
     }
 }
 
-fn mix_places(a: Places, b: Places, k: f32) -> Places
+pub fn mix_places(a: Places, b: Places, k: f32) -> Places
     ensures { λ r. ⌜ r ≡ mixPlaces a b k ⌝ }
 {
     let a_translate = a.translate;
@@ -275,7 +276,7 @@ fn mix_places(a: Places, b: Places, k: f32) -> Places
     }
 }
 
-fn mix_clips(a: Clips, b: Clips, k: f32) -> Clips
+pub fn mix_clips(a: Clips, b: Clips, k: f32) -> Clips
     ensures { λ r. ⌜ r ≡ mixClips a b k ⌝ }
 {
     let a_clip = a.clip_rect;
@@ -290,7 +291,7 @@ fn mix_clips(a: Clips, b: Clips, k: f32) -> Clips
     }
 }
 
-fn mix_sizes(a: Sizes, b: Sizes, k: f32) -> Sizes
+pub fn mix_sizes(a: Sizes, b: Sizes, k: f32) -> Sizes
     ensures { λ r. ⌜ r ≡ mixSizes a b k ⌝ }
 {
     let a_size = a.font_size;
@@ -309,7 +310,7 @@ fn mix_sizes(a: Sizes, b: Sizes, k: f32) -> Sizes
     }
 }
 
-fn mix_colors(a: Colors, b: Colors, k: f32) -> Colors
+pub fn mix_colors(a: Colors, b: Colors, k: f32) -> Colors
     ensures { λ r. ⌜ r ≡ mixColors a b k ⌝ }
 {
     let a1 = a.primary_color;
@@ -332,7 +333,7 @@ fn mix_colors(a: Colors, b: Colors, k: f32) -> Colors
     }
 }
 
-fn mix_alphas(a: Alphas, b: Alphas, k: f32) -> Alphas
+pub fn mix_alphas(a: Alphas, b: Alphas, k: f32) -> Alphas
     ensures { λ r. ⌜ r ≡ mixAlphas a b k ⌝ }
 {
     let a1 = a.primary_alpha;
@@ -376,7 +377,7 @@ fn kept_pivot(a: OptPair, b: OptPair) -> OptPair
     if equal_pairs(a, b) { a } else { b }
 }
 
-fn mix_line(a: Line, b: Line, k: f32) -> Line
+pub fn mix_line(a: Line, b: Line, k: f32) -> Line
     ensures { λ r. ⌜ r ≡ mixLine a b k ⌝ }
 {
     if k > 0.0 {
@@ -403,47 +404,8 @@ fn mix_line(a: Line, b: Line, k: f32) -> Line
     }
 }
 
-fn mix_font(a: Font, b: Font, k: f32) -> Font
+pub fn mix_font(a: Font, b: Font, k: f32) -> Font
     ensures { λ r. ⌜ r ≡ mixFont a b k ⌝ }
 {
     if k > 0.0 { b } else { a }
-}
-
-pub fn between(k: f32, a: RenderState, b: RenderState) -> RenderState
-    ensures { λ r. ⌜ r ≡ betweenOf k a b ⌝ }
-{
-    let a_always = a.always;
-    let b_always = b.always;
-    let a_places = a.places;
-    let b_places = b.places;
-    let a_clips = a.clips;
-    let b_clips = b.clips;
-    let a_sizes = a.sizes;
-    let b_sizes = b.sizes;
-    let a_colors = a.colors;
-    let b_colors = b.colors;
-    let a_alphas = a.alphas;
-    let b_alphas = b.alphas;
-    let a_line = a.line;
-    let b_line = b.line;
-    let a_font = a.font;
-    let b_font = b.font;
-    let always = mix_always(a_always, b_always, k);
-    let places = mix_places(a_places, b_places, k);
-    let clips = mix_clips(a_clips, b_clips, k);
-    let sizes = mix_sizes(a_sizes, b_sizes, k);
-    let colors = mix_colors(a_colors, b_colors, k);
-    let alphas = mix_alphas(a_alphas, b_alphas, k);
-    let line = mix_line(a_line, b_line, k);
-    let font = mix_font(a_font, b_font, k);
-    RenderState {
-        always,
-        places,
-        clips,
-        sizes,
-        colors,
-        alphas,
-        line,
-        font,
-    }
 }

@@ -33,7 +33,7 @@ pub fn passed(start: i32, end: i32, t: i32) -> f32
 }
 
 // How far t is on its way from start to end.
-fn ramp(start: i32, end: i32, t: i32) -> f32
+pub fn ramp(start: i32, end: i32, t: i32) -> f32
     ensures { λ r. ⌜ r ≡ rampOf start end t ⌝ }
 {
     if end <= start {

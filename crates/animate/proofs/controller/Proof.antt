@@ -14,7 +14,8 @@ returns c =
       reading = e .reading;
       table = e .table;
       one = c .before .before .look .ensures ∙ rw (w, toZ-ofZ w32 (s .args .t) (s .fits .t), toZ-ofZ w32 (s .args .dur) (s .fits .dur));
-      other = c .look2 .ensures ∙ rw (w, toZ-ofZ w32 (s .args .u) (s .fits .u), toZ-ofZ w32 (s .args .dur) (s .fits .dur)) }
+      other = c .look2 .ensures ∙ rw (w, toZ-ofZ w32 (s .args .u) (s .fits .u), toZ-ofZ w32 (s .args .dur) (s .fits .dur));
+    }
 
 pub controller-spec : {M : Type 1} → statement M
 controller-spec = tie.close (tie.spec (λ c κs. search needs) (λ c κs. search needs) (λ c κs. search needs) (λ c κs. search needs) (λ c. search needs) returns)
