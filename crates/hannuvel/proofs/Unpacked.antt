@@ -1,11 +1,19 @@
 -- Of what each call returns, the three functions of include/hannuvel.h give back the ground, the extra and the value of the answer: nothing is cut off.
-use mathlib.Core.Path.{_≡_}
+use mathlib.Core.Path.{_≡_, refl, ap, _∙_}
 use mathlib.Core.List.{List}
 use Prim.Native.Nat.{ℕ, _+_, _*_, _/_, _%_, _^_, _≤_, _<_}
 use native.Mathlib.Omega.{arith}
-use native.Mathlib.Nat.{lt-of-le-of-lt, add-mul, mul-assoc, mul-comm, mod-eq-of-lt, div-eq-of-lt, mul-add-div-right, mul-add-mod-self-right, div-div-eq-div-mul, add-zero}
-use lib.Dec.{lit<}
-use Rattle.refusal.specs.Refusal.{mostBytes}
+use native.Mathlib.Nat.{le-refl, le-trans, lt-of-le-of-lt, add-mul, mul-assoc, mul-comm, mod-eq-of-lt, div-eq-of-lt, mul-add-div-right, mul-add-mod-self-right, div-div-eq-div-mul, add-zero}
+use lib.Dec.{lit<, lit≤}
+use lib.IntN.{ℤ}
+use lib.ListN.{length, length-take, length-drop}
+use Rattle.scan.specs.Scan.{both}
+use Rattle.scan.proofs.Laws.{picked}
+use Rattle.float.specs.Float.{toWord, ofWord}
+use Rattle.float.proofs.Words.{ofWord-toWord}
+use Rattle.refusal.specs.Refusal.{numberOf, placeOf, mostBytes, mostPlaces}
+use Rattle.refusal.specs.declared.Refusal.{Refusal}
+use Rattle.refusal.specs.declared.Refusal.the-variants.{TimeOutOfRange}
 use Rattle.refusal.specs.declared.Checked.{Checked}
 use Rattle.refusal.specs.declared.Checked.the-variants.{Good, Bad}
 use Rattle.refusal.specs.declared.Answer.{Answer}
@@ -13,6 +21,20 @@ use Rattle.refusal.specs.Answer.{groundNumber, answerValue}
 use Rattle.refusal.proofs.Laws.{Few, Within, value-small}
 use Rattle.read.specs.Reading.{wholeText, lessBraces, answer}
 use Rattle.tag.specs.Table.{placesOf}
+use Rattle.tag.specs.declared.Record.{Record}
+use Rattle.tag.specs.WellFormed.{recordsOf, holds, first, tableGround, AtFault, range, deep, past, later, inner, behind}
+use Rattle.tag.specs.Decode.{tagsOf}
+use Rattle.tag.proofs.Formed.{Named, record-at-fault, too-many, broken-last, ground-first}
+use Rattle.table.specs.Ground.{inTime, timeGround, callGround}
+use Rattle.state.specs.declared.RenderState.{RenderState}
+use Rattle.state.specs.Apply.{evaluateAt}
+use Rattle.evaluate.specs.Evaluate as Evaluate
+use Rattle.evaluate.specs.Evaluate.{evaluatedOr, evaluated}
+use Rattle.marks.specs.declared.Mark.{Mark}
+use Rattle.marks.specs.declared.Marked.{Marked}
+use Rattle.marks.specs.Marks.{nextMark}
+use Rattle.marks.specs.Answer as Marks
+use Rattle.marks.specs.Answer.{markedOr, marked, markOf}
 use Rattle.read.specs.declared.Span.{Span}
 use Rattle.read.proofs.Parts.{SpanIn, whole-in, braces-in}
 use Rattle.read.proofs.Places.{few-read, ground-within}
@@ -22,7 +44,9 @@ use Rattle.drawing.proofs.Places.{few-drawn}
 use Rattle.clips.specs.declared.Clip.{Clip}
 use Rattle.clips.specs.Clip.{clipGround, clipOf}
 use Rattle.clips.proofs.Places as Clips
-use Rattle.hannuvel.specs.Packed.{packed, Unpacks, answerWord, ReadingCall, DrawingCall, clipExtra, clipValue, clipWord}
+use Rattle.hannuvel.specs.Packed.{packed, valueOf, Unpacks, answerWord, ReadingCall, DrawingCall, clipExtra, clipValue, clipWord}
+use Rattle.hannuvel.specs.Instant.{EvaluatingCall, markExtra, markValue, markedWord, SignedMark, MarkingCall}
+use Rattle.hannuvel.proofs.Instant.{signed-fits, word-small}
 
 -- ---- three numbers in one, the second below b and the last below a
 
@@ -94,3 +118,61 @@ clip-small c (Bad r) h = plain (clipGround (Bad r)) (clipValue (Bad r) c) h
 -- `hannuvel_split_clip_arg`
 pub clip-unpacked : (s : List ℕ) (r : ℕ) → r ≡ clipWord (clipOf s) → let c = clipOf s in Unpacks r (clipGround (c .checked)) (clipExtra (c .checked) c) (clipValue (c .checked) c)
 clip-unpacked s r e = rw e (clip-small (clipOf s) (clipOf s .checked) (Clips.clip-within s))
+
+-- ---- tables
+
+-- ground 5 names a record among the first 1,024, or the one behind them
+fault-inside : {d : ℕ} {l : List Record} {i : ℕ} → AtFault d l i → i < length l
+fault-inside (range h) = omega arith
+fault-inside (deep h) = omega arith
+fault-inside (past h k) = omega arith
+fault-inside (later h f) = let g = fault-inside f in omega arith
+fault-inside (inner {r = r} {l = l} h f) = let g = fault-inside f in omega (arith, length-take (holds r) l)
+fault-inside (behind {r = r} {l = l} h f) = let g = fault-inside f in omega (arith, length-drop (holds r) l)
+
+named-place : (ws : List ℕ) {b : Refusal} → Named ws b → placeOf b ≤ mostPlaces
+named-place ws (record-at-fault f) = rw (f .is) (omega (arith, fault-inside (f .fault), length-take mostPlaces (recordsOf ws)))
+named-place ws (too-many f h) = le-refl mostPlaces
+named-place ws (broken-last f h e) = h
+
+abbrev Low : Checked → Type 0
+Low Good = Unit
+Low (Bad r) = placeOf r ≤ mostPlaces
+
+table-low : (ws : List ℕ) (c : Checked) → tableGround ws ≡ c → Low c
+table-low ws Good e = tt
+table-low ws (Bad r) e = named-place ws (ground-first ws r e)
+
+first-low : (a b : Checked) → Low a → Low b → Low (first a b)
+first-low Good b h k = k
+first-low (Bad r) b h k = h
+
+call-low : (ws : List ℕ) (t dur : ℤ) → Low (callGround ws t dur)
+unfolding callGround timeGround
+call-low ws t dur = first-low (tableGround ws) (timeGround t dur) (table-low ws (tableGround ws) refl) (picked Low (both (inTime t) (inTime dur)) Good (Bad TimeOutOfRange) tt (lit≤ tt))
+
+evaluated-low : (c : Checked) (st : RenderState) → Low c → Evaluate.groundPlace (evaluatedOr c st) ≤ mostBytes
+evaluated-low Good st h = lit≤ tt
+evaluated-low (Bad r) st h = le-trans h (lit≤ tt)
+
+-- `hannuvel_evaluate_at`
+pub evaluate-unpacked : {ws v u : List ℕ} {t dur : ℤ} {r : ℕ} → EvaluatingCall ws t dur v r u → let a = evaluated ws t dur in Unpacks r (Evaluate.groundNumber a) 0 (Evaluate.groundPlace a)
+unfolding evaluated
+evaluate-unpacked {ws} {v} {u} {t} {dur} {r} c =
+    let a = evaluated ws t dur in
+    rw (c .answered) (plain (Evaluate.groundNumber a) (Evaluate.groundPlace a) (evaluated-low (callGround ws t dur) (evaluateAt t dur (tagsOf ws)) (call-low ws t dur)))
+
+marked-unpacked : (c : Checked) (m : Mark) → Low c → SignedMark (markOf (markedOr c m)) → let a = markedOr c m in Unpacks (markedWord a) (Marks.groundNumber a) (markExtra a) (markValue a)
+marked-unpacked Good Mark.None l s = unpacked 0 1 0 (lit< tt) (lit< tt)
+marked-unpacked Good (Mark.At a) l s = unpacked 0 0 (toWord a) (lit< tt) (word-small a s)
+marked-unpacked (Bad r) m l s = plain (numberOf r) (placeOf r) (le-trans l (lit≤ tt))
+
+module _ {ws : List ℕ} {t dur : ℤ} {r : ℕ} (c : MarkingCall ws t dur r) where
+  -- `hannuvel_next_mark`
+  pub next-mark-unpacked : let a = marked ws t dur in Unpacks r (Marks.groundNumber a) (markExtra a) (markValue a)
+  unfolding marked
+  next-mark-unpacked = rw (c .answered) (marked-unpacked (callGround ws t dur) (nextMark t dur (tagsOf ws)) (call-low ws t dur) (c .signed))
+
+  -- the value as an i32 is the mark
+  pub mark-back : (a : ℤ) → marked ws t dur ≡ Marked.Next (Mark.At a) → ofWord (valueOf r) ≡ a
+  mark-back a e = ap ofWord (next-mark-unpacked .value ∙ ap markValue e) ∙ ofWord-toWord a (signed-fits a (rw e at (c .signed)))

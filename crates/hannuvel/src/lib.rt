@@ -2,7 +2,9 @@
 ghost use mathlib.Core.Path.{_≡_};
 ghost use Rattle.read.specs.Reading.{wholeText, lessBraces};
 ghost use Rattle.clips.specs.Clip.{clipOf};
+ghost use Rattle.marks.specs.Answer.{markOf};
 ghost use Rattle.hannuvel.specs.Packed.{refusalWord, answerWord, ReadingCall, DrawingCall, clipWord};
+ghost use Rattle.hannuvel.specs.Instant.{EvaluatingCall, MarkingCall, markedWord, SignedMark};
 
 fn packed_refusal(r: refusal::Refusal) -> u64
     ensures { λ w. ⌜ w ≡ refusalWord r ⌝ }
@@ -61,4 +63,43 @@ pub extern "C" fn hannuvel_split_clip_arg(text: &[u8]) -> u64
     ensures { λ r. ⌜ r ≡ clipWord (clipOf (now (text .entry))) ⌝ }
 {
     packed_clip(clips::clip_at(text))
+}
+
+// The state at t of the tags that a table stands for, in a line of that duration, as its 92 words.
+#[no_mangle]
+pub extern "C" fn hannuvel_evaluate_at(
+    table: &[u32],
+    t: i32,
+    duration: i32,
+    state: &mut [u32; 92],
+) -> u64
+    ensures { λ r. ⌜ EvaluatingCall (now (table .entry)) t duration (now (state .entry)) r (now (state .exit)) ⌝ }
+{
+    match evaluate::evaluate_at(table, t, duration) {
+        evaluate::Evaluated::Refused(g) => packed_refusal(g),
+        evaluate::Evaluated::State(st) => {
+            words::write_state(state, st);
+            0
+        }
+    }
+}
+
+fn packed_marked(m: marks::Marked) -> u64
+    ensures { λ w. ⌜ (w ≡ markedWord m) × SignedMark (markOf m) ⌝ }
+{
+    match m {
+        marks::Marked::Refused(g) => packed_refusal(g),
+        marks::Marked::Next(n) => match n {
+            marks::Mark::None => 4294967296,
+            marks::Mark::At(a) => float::to_word(a) as u64,
+        },
+    }
+}
+
+// The earliest mark after t of the tags that a table stands for, in a line of that duration. The value is the mark in two's complement, the extra 1 where there is none.
+#[no_mangle]
+pub extern "C" fn hannuvel_next_mark(table: &[u32], t: i32, duration: i32) -> u64
+    ensures { λ r. ⌜ MarkingCall (now (table .entry)) t duration r ⌝ }
+{
+    packed_marked(marks::next_mark(table, t, duration))
 }
