@@ -276,11 +276,12 @@ fn stands(r: Record, left: usize, deep: usize) -> bool
     ensures { λ v. ⌜ v ≡ standsOf left deep r ⌝ }
 {
     let kind = r.kind;
+    let own = in_range(r);
     if kind == 49 {
         let n = r.w5 as usize;
-        return scan::both(in_range(r), scan::both(0 < deep, n <= left));
+        return scan::both(own, scan::both(0 < deep, n <= left));
     }
-    in_range(r)
+    own
 }
 
 // The first at fault of `count` records from `from` on, with `deep` more levels of T allowed: those inside a T, then those behind it.
