@@ -61,6 +61,32 @@ fn clip(text: &[u8]) {
     write(hannuvel::hannuvel_split_clip_arg(text), &[]);
 }
 
+fn write_state(result: u64, state: &[u32; 92]) {
+    write(result, state);
+}
+
+// The state of a table's tags, on an instant, a duration and the table's words.
+fn evaluate(words: &[u32]) {
+    if words.len() < 2 {
+        return write_unknown();
+    }
+    let t = float::of_word(words[0]);
+    let duration = float::of_word(words[1]);
+    let mut state = [stored::LENT; 92];
+    let r = hannuvel::hannuvel_evaluate_at(&words[2..], t, duration, &mut state);
+    write_state(r, &state);
+}
+
+// The next mark of a table's tags, on an instant, a duration and the table's words.
+fn next_mark(words: &[u32]) {
+    if words.len() < 2 {
+        return write_unknown();
+    }
+    let t = float::of_word(words[0]);
+    let duration = float::of_word(words[1]);
+    write(hannuvel::hannuvel_next_mark(&words[2..], t, duration), &[]);
+}
+
 // Makes a call and writes its answer.
 fn answer(call: u8, leaf: u8, words: &[u32], text: &[u8], lent: &mut [u32]) {
     match call {
@@ -69,6 +95,8 @@ fn answer(call: u8, leaf: u8, words: &[u32], text: &[u8], lent: &mut [u32]) {
         b'R' => raw_block(words, text, lent),
         b'D' => drawing(words, text, lent),
         b'C' => clip(text),
+        b'E' => evaluate(words),
+        b'M' => next_mark(words),
         _ => write_unknown(),
     }
 }
