@@ -105,12 +105,7 @@ cover (suc n) i kss e x l h =
     (λ j. ⊎-elim (λ k. let z : x ≡ i = omega arith in rw z j) (λ k. cover n (suc i) kss (rw j at e) x k (omega arith)) (le-or-lt x i))
     (λ j. absurd (true≢false (sym (rw j at e))))
 
--- a kind between two bounds that is none of theirs is one of the arm's
-pub left-over : (n i : ℕ) (ks : List ℕ) (kss : List (List ℕ)) → covered n i (ks ∷ kss) ≡ true → {x : ℕ} → Rest x kss → i ≤ x → x < i + n → OneOf ks x
-left-over n i ks kss e {x} r l h =
-    let z = cover n i (ks ∷ kss) e x l h in
-    by (isIn x ks) (λ j. in-any x ks j) (λ j. absurd (rest-out x kss r (rw j at z)))
-
+-- a kind that is none of theirs lies past them
 pub none-left : (n i : ℕ) (kss : List (List ℕ)) → covered n i kss ≡ true → {x : ℕ} → Rest x kss → i ≤ x → i + n ≤ x
 none-left n i kss e {x} r l = ⊎-elim (λ h. h) (λ h. absurd (rest-out x kss r (cover n i kss e x l h))) (le-or-lt (i + n) x)
 

@@ -1,3 +1,4 @@
+pub mod FloatWords
 pub mod ByKind
 pub mod Slices
 pub mod Faults

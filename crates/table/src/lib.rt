@@ -45,6 +45,13 @@ fn is_time(w: u32) -> bool
     scan::either(w <= 1000000000, within(3294967296, 4294967295, w))
 }
 
+// Whether a word is that of a float in range: without the sign, at most the bits of 1,000,000,000.
+fn is_float(w: u32) -> bool
+    ensures { λ v. ⌜ v ≡ wordFits float w ⌝ }
+{
+    w % 2147483648 <= 1315859240
+}
+
 // Whether times are there or 0.
 fn times_fit(flag: u32, t1: u32, t2: u32) -> bool
     ensures { λ v. ⌜ v ≡ timesFit flag t1 t2 ⌝ }
@@ -82,10 +89,7 @@ fn unused_from_3(r: Record) -> bool
 fn float_fits(r: Record) -> bool
     ensures { λ v. ⌜ v ≡ oneFits float r ⌝ }
 {
-    scan::both(
-        float::in_reach(r.w1),
-        scan::both(r.w2 == 0, unused_from_3(r)),
-    )
+    scan::both(is_float(r.w1), scan::both(r.w2 == 0, unused_from_3(r)))
 }
 
 fn number_fits(r: Record, low: u32, high: u32) -> bool
@@ -100,10 +104,7 @@ fn number_fits(r: Record, low: u32, high: u32) -> bool
 fn pair_fits(r: Record) -> bool
     ensures { λ v. ⌜ v ≡ twoFit float float r ⌝ }
 {
-    scan::both(
-        float::in_reach(r.w1),
-        scan::both(float::in_reach(r.w2), unused_from_3(r)),
-    )
+    scan::both(is_float(r.w1), scan::both(is_float(r.w2), unused_from_3(r)))
 }
 
 fn numbers_fit(r: Record, high1: u32, high2: u32) -> bool
@@ -134,13 +135,10 @@ fn rect_fits(r: Record) -> bool
     ensures { λ v. ⌜ v ≡ wordsFit float float float float unused unused unused r ⌝ }
 {
     scan::both(
-        float::in_reach(r.w1),
+        is_float(r.w1),
         scan::both(
-            float::in_reach(r.w2),
-            scan::both(
-                float::in_reach(r.w3),
-                scan::both(float::in_reach(r.w4), unused_from_5(r)),
-            ),
+            is_float(r.w2),
+            scan::both(is_float(r.w3), scan::both(is_float(r.w4), unused_from_5(r))),
         ),
     )
 }
@@ -165,15 +163,9 @@ fn move_fits(r: Record) -> bool
     ensures { λ v. ⌜ v ≡ both (wordsFit float float float float (range 0 1) time time r) (timesFit (r .w5) (r .w6) (r .w7)) ⌝ }
 {
     let times = scan::both(within(0, 1, r.w5), scan::both(is_time(r.w6), is_time(r.w7)));
-    let end = scan::both(
-        float::in_reach(r.w3),
-        scan::both(float::in_reach(r.w4), times),
-    );
+    let end = scan::both(is_float(r.w3), scan::both(is_float(r.w4), times));
     scan::both(
-        scan::both(
-            float::in_reach(r.w1),
-            scan::both(float::in_reach(r.w2), end),
-        ),
+        scan::both(is_float(r.w1), scan::both(is_float(r.w2), end)),
         times_fit(r.w5, r.w6, r.w7),
     )
 }
@@ -231,7 +223,7 @@ fn reset_fits(r: Record) -> bool
 fn t_fits(r: Record) -> bool
     ensures { λ v. ⌜ v ≡ both (wordsFit (range 0 1) time time float free unused unused r) (timesFit (r .w1) (r .w2) (r .w3)) ⌝ }
 {
-    let end = scan::both(float::in_reach(r.w4), scan::both(r.w6 == 0, r.w7 == 0));
+    let end = scan::both(is_float(r.w4), scan::both(r.w6 == 0, r.w7 == 0));
     scan::both(
         scan::both(
             within(0, 1, r.w1),
@@ -241,15 +233,19 @@ fn t_fits(r: Record) -> bool
     )
 }
 
-// Whether every word of a record is in the range of its kind.
+// Whether every word of a record is in the range of its kind. Kinds that follow one another stand in two arms: of a run in one arm
+// comparisons would be made, and so each kind is one jump away.
 pub fn in_range(r: Record) -> bool
     ensures { λ v. ⌜ v ≡ inRange r ⌝ }
 {
     let kind = r.kind;
     match kind {
-        5 | 6 | 7 | 8 | 10 | 13 | 14 | 16 | 17 | 18 | 19 | 20 | 21 | 23 | 24 | 35 => float_fits(r),
-        9 | 27 | 28 | 29 => colour_fits(r),
-        22 | 30 | 31 | 32 | 33 | 34 | 38 | 40 | 48 => number_fits(r, 0, 255),
+        5 | 7 | 10 | 13 | 16 | 18 | 20 | 23 | 35 => float_fits(r),
+        6 | 8 | 14 | 17 | 19 | 21 | 24 => float_fits(r),
+        9 | 27 | 29 => colour_fits(r),
+        28 => colour_fits(r),
+        22 | 30 | 32 | 34 | 38 | 40 | 48 => number_fits(r, 0, 255),
+        31 | 33 => number_fits(r, 0, 255),
         49 => t_fits(r),
         3 | 15 => pair_fits(r),
         4 => move_fits(r),
@@ -262,7 +258,8 @@ pub fn in_range(r: Record) -> bool
         39 => font_fits(r),
         41 => reset_fits(r),
         42 => weight_fits(r),
-        43 | 44 | 45 => number_fits(r, 0, 1),
+        43 | 45 => number_fits(r, 0, 1),
+        44 => number_fits(r, 0, 1),
         46 => numbers_fit(r, 2, 1000000000),
         47 => shift_fits(r),
         _ => false,

@@ -2,8 +2,8 @@ use borrow.Author.Needs.{needs}
 use Rattle.table.proofs.float_fits.Statement.{statement}
 use Rattle.table.proofs.float_fits.Tie as tie
 
-in-reach-requires : tie.Need-in-reach-requires
-in-reach-requires c κs = search needs
+is-float-requires : tie.Need-is-float-requires
+is-float-requires c κs = search needs
 
 unused-from-3-requires : tie.Need-unused-from-3-requires
 unused-from-3-requires c κs = search needs
@@ -20,4 +20,4 @@ returns c = cc
 pub float-fits-spec : {M : Type 1} → statement M
 float-fits-spec =
     tie.close
-    (tie.spec in-reach-requires unused-from-3-requires both-requires both-requires-2 returns)
+    (tie.spec is-float-requires unused-from-3-requires both-requires both-requires-2 returns)

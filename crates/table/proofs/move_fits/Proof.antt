@@ -17,11 +17,11 @@ both-requires c κs = search needs
 both-requires-2 : tie.Need-both-requires-2
 both-requires-2 c κs = search needs
 
-in-reach-requires : tie.Need-in-reach-requires
-in-reach-requires c κs = search needs
+is-float-requires : tie.Need-is-float-requires
+is-float-requires c κs = search needs
 
-in-reach-requires-2 : tie.Need-in-reach-requires-2
-in-reach-requires-2 c κs = search needs
+is-float-requires-2 : tie.Need-is-float-requires-2
+is-float-requires-2 c κs = search needs
 
 both-requires-3 : tie.Need-both-requires-3
 both-requires-3 c κs = search needs
@@ -29,11 +29,11 @@ both-requires-3 c κs = search needs
 both-requires-4 : tie.Need-both-requires-4
 both-requires-4 c κs = search needs
 
-in-reach-requires-3 : tie.Need-in-reach-requires-3
-in-reach-requires-3 c κs = search needs
+is-float-requires-3 : tie.Need-is-float-requires-3
+is-float-requires-3 c κs = search needs
 
-in-reach-requires-4 : tie.Need-in-reach-requires-4
-in-reach-requires-4 c κs = search needs
+is-float-requires-4 : tie.Need-is-float-requires-4
+is-float-requires-4 c κs = search needs
 
 both-requires-5 : tie.Need-both-requires-5
 both-requires-5 c κs = search needs
@@ -59,12 +59,12 @@ move-fits-spec =
     is-time-requires-2
     both-requires
     both-requires-2
-    in-reach-requires
-    in-reach-requires-2
+    is-float-requires
+    is-float-requires-2
     both-requires-3
     both-requires-4
-    in-reach-requires-3
-    in-reach-requires-4
+    is-float-requires-3
+    is-float-requires-4
     both-requires-5
     both-requires-6
     times-fit-requires

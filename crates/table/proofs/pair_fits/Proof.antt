@@ -2,11 +2,11 @@ use borrow.Author.Needs.{needs}
 use Rattle.table.proofs.pair_fits.Statement.{statement}
 use Rattle.table.proofs.pair_fits.Tie as tie
 
-in-reach-requires : tie.Need-in-reach-requires
-in-reach-requires c κs = search needs
+is-float-requires : tie.Need-is-float-requires
+is-float-requires c κs = search needs
 
-in-reach-requires-2 : tie.Need-in-reach-requires-2
-in-reach-requires-2 c κs = search needs
+is-float-requires-2 : tie.Need-is-float-requires-2
+is-float-requires-2 c κs = search needs
 
 unused-from-3-requires : tie.Need-unused-from-3-requires
 unused-from-3-requires c κs = search needs
@@ -24,8 +24,8 @@ pub pair-fits-spec : {M : Type 1} → statement M
 pair-fits-spec =
     tie.close
     (tie.spec
-    in-reach-requires
-    in-reach-requires-2
+    is-float-requires
+    is-float-requires-2
     unused-from-3-requires
     both-requires
     both-requires-2

@@ -2,8 +2,8 @@ use borrow.Author.Needs.{needs}
 use Rattle.table.proofs.t_fits.Statement.{statement}
 use Rattle.table.proofs.t_fits.Tie as tie
 
-in-reach-requires : tie.Need-in-reach-requires
-in-reach-requires c κs = search needs
+is-float-requires : tie.Need-is-float-requires
+is-float-requires c κs = search needs
 
 both-requires : tie.Need-both-requires
 both-requires c κs = search needs
@@ -42,7 +42,7 @@ pub t-fits-spec : {M : Type 1} → statement M
 t-fits-spec =
     tie.close
     (tie.spec
-    in-reach-requires
+    is-float-requires
     both-requires
     both-requires-2
     within-requires
