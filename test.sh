@@ -65,8 +65,8 @@ if listed hannuvel; then
     compare_call hannuvel_parse_overrides blocks --count 20000
     compare_call hannuvel_parse_drawing drawings --count 20000
     compare_call hannuvel_split_clip_arg clips --count 20000
-    compare_call hannuvel_evaluate_at evaluate --count 20000 --random-only
-    compare_call hannuvel_next_mark marks --count 20000 --random-only
+    compare_call hannuvel_evaluate_at evaluate --count 20000
+    compare_call hannuvel_next_mark marks --count 20000
     compare_call hannuvel_karaoke_spans karaoke --count 20000 --random-only
     compare_call hannuvel_progress progress --count 20000 --random-only
     compare_call hannuvel_style_in_force styles --count 20000 --random-only

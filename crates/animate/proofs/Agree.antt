@@ -45,7 +45,7 @@ use Rattle.marks.proofs.Order.{leZ-true, leZ-false, <ℤ-≤ℤ}
 use Rattle.animate.specs.declared.Seen.{Seen}
 use Rattle.animate.specs.declared.Told.{Told}
 use Rattle.animate.specs.declared.Both.{Both}
-use Rattle.animate.specs.Claim.{tagsIn, blockGround, otherGround, InRange, earlier, later, Space, Hold, StateIs, NextIs, Agreed}
+use Rattle.animate.specs.Claim.{tagsIn, blockGround, otherGround, InRange, earlier, later, Space, Hold, StateIs, NextIs, Agreed, Exact}
 use Rattle.animate.specs.Inner.{wordsIn, recordsIn, seenAt, Ran}
 
 -- ---- refusals and space
@@ -190,7 +190,7 @@ module _ (s : List ℕ) (x : Span) (inside : SpanIn s x) (t u dur : ℤ) where
 
 -- ---- any well-formed table, read or not: the next mark is exact
 
-pub exact-next : (ws : List ℕ) (t dur : ℤ) → WellFormed ws → InRange t → InRange dur →
-    (marked ws t dur ≡ Marked.Next (nextMark t dur (tagsOf ws))) × Earliest (marks dur (tagsOf ws)) t (nextMark t dur (tagsOf ws))
+pub exact-next : (ws : List ℕ) (t dur : ℤ) → WellFormed ws → InRange t → InRange dur → Exact ws t dur
 unfolding marked
-exact-next ws t dur w i d = (rw (fine-good ws t dur (record { formed = w; instant = i; duration = d })), next-earliest t dur (tagsOf ws))
+exact-next ws t dur w i d =
+    record { answer = rw (fine-good ws t dur (record { formed = w; instant = i; duration = d })); earliest = next-earliest t dur (tagsOf ws) }

@@ -22,6 +22,7 @@ use Rattle.refusal.specs.declared.Answer.the-variants.{Written, Refused}
 use Rattle.tag.specs.Tag.{Tags, count}
 use Rattle.tag.specs.Table.{placesOf}
 use Rattle.tag.specs.WellFormed.{first}
+use Rattle.tag.specs.Decode.{tagsOf}
 use Rattle.read.specs.declared.Span.{Span}
 use Rattle.read.specs.Reading.{wholeText, lessBraces, blockOf}
 use Rattle.table.specs.Ground.{inTime}
@@ -31,6 +32,7 @@ use Rattle.evaluate.specs.declared.Evaluated.{Evaluated}
 use Rattle.marks.specs.declared.Mark.{Mark}
 use Rattle.marks.specs.declared.Marked.{Marked}
 use Rattle.marks.specs.Marks.{marks, NoMark, nextMark, Earliest}
+use Rattle.marks.specs.Answer.{marked}
 use Rattle.animate.specs.declared.Seen.{Seen}
 use Rattle.animate.specs.declared.Told.{Told}
 use Rattle.animate.specs.declared.Both.{Both}
@@ -112,3 +114,11 @@ pub record Agreed (s : List ℕ) (x : Span) (a b : List ℕ) (t u dur : ℤ) (r 
   -- "the next-mark call names the earliest later mark exactly", on these tables that of the block, and none exactly when there is none
   pub next : Hold r → InRange t → InRange u → InRange dur →
       NextIs (tagsIn s x) dur t (r .first .one) (r .second .one) (nextMark t dur (tagsIn s x)) × NextIs (tagsIn s x) dur u (r .first .other) (r .second .other) (nextMark u dur (tagsIn s x))
+
+-- ---- beside it, for a table that no reading wrote
+
+-- 01: "Only for a well-formed table that was not so read are the marks those of the tags, at every depth, that its records stand for". The
+-- next-mark call names the earliest later one of these: `exact-next` proves it of every well-formed table.
+pub record Exact (ws : List ℕ) (t dur : ℤ) : Type 0 where
+  pub answer : marked ws t dur ≡ Marked.Next (nextMark t dur (tagsOf ws))
+  pub earliest : Earliest (marks dur (tagsOf ws)) t (nextMark t dur (tagsOf ws))

@@ -85,6 +85,8 @@ pub fn two_controllers(
     dur: i32,
 ) -> Both
     ensures { λ r. ⌜ Agreed (now (text .entry)) (spanOf raw (now (text .entry))) (now (a .entry)) (now (b .entry)) t u dur r (now (a .exit)) (now (b .exit)) ⌝ }
+    ensures { λ r. ⌜ Ran (now (text .entry)) (spanOf raw (now (text .entry))) (now (a .entry)) t u dur (r .first) (now (a .exit)) ⌝ }
+    ensures { λ r. ⌜ Ran (now (text .entry)) (spanOf raw (now (text .entry))) (now (b .entry)) t u dur (r .second) (now (b .exit)) ⌝ }
 {
     let first = controller(text, raw, a, t, u, dur);
     let second = controller(text, raw, b, t, u, dur);

@@ -34,6 +34,10 @@ at-500 : sizeAt 500 (growing (pos 0) (pos 1000) one) ≡ toBits binary32 (whole 
 unfolding evaluateAt applyTags applyOwn toBits ofInt
 at-500 = refl
 
+at-1000 : sizeAt 1000 (growing (pos 0) (pos 1000) one) ≡ toBits binary32 (whole 40)
+unfolding evaluateAt applyTags applyOwn toBits ofInt
+at-1000 = refl
+
 -- with `0,1000,2,` size 25 at 500; with `0,1000,0.5,` size 30 at 250
 squared : sizeAt 500 (growing (pos 0) (pos 1000) (whole 2)) ≡ toBits binary32 (whole 25)
 unfolding evaluateAt applyTags applyOwn toBits ofInt
@@ -53,6 +57,10 @@ unfolding evaluateAt applyTags applyOwn toBits ofInt
 at-jump = refl
 
 -- `\fad(200,300)`, duration 1000: 0 at 0, 0.5 at 100, 1 at 700, 0.5 at 850, 0 at 1000
+fad-0 : opacityAt 0 (and (Fad 200 300) none) ≡ 0
+unfolding evaluateAt applyTags applyOwn toBits
+fad-0 = refl
+
 fad-100 : opacityAt 100 (and (Fad 200 300) none) ≡ 0x3F000000
 unfolding evaluateAt applyTags applyOwn toBits
 fad-100 = refl

@@ -54,7 +54,7 @@ fn rows(inputs: &mut Inputs) -> Vec<Row> {
             16 * KB,
         ),
         row("next_mark, no \\t", mark, &flat_lines, KB),
-        row("next_mark, to eight \\t", mark, &nested_lines, KB),
+        row("next_mark, to eight \\t", mark, &nested_lines, 2 * KB),
     ]
 }
 

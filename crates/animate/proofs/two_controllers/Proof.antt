@@ -22,7 +22,7 @@ returns c =
     let a = s .args in
     let p = rw (toZ-ofZ w32 (a .t) (s .fits .t), toZ-ofZ w32 (a .u) (s .fits .u), toZ-ofZ w32 (a .dur) (s .fits .dur)) at (c .before .before .before .before .before .before .controller .ensures) in
     let q = rw (toZ-ofZ w32 (a .t) (s .fits .t), toZ-ofZ w32 (a .u) (s .fits .u), toZ-ofZ w32 (a .dur) (s .fits .dur)) at (c .before .before .controller2 .ensures) in
-    agreed (a .text .now) (spanOf (a .raw) (a .text .now)) (span-in (a .raw) (a .text .now)) (a .t) (a .u) (a .dur) p q
+    (agreed (a .text .now) (spanOf (a .raw) (a .text .now)) (span-in (a .raw) (a .text .now)) (a .t) (a .u) (a .dur) p q, (p, q))
 
 pub two-controllers-spec : {M : Type 1} → statement M
 two-controllers-spec = tie.close (tie.spec (λ c κs. search needs) (λ c κs. search needs) (λ c. search needs) (λ c. search needs) returns)
