@@ -155,7 +155,7 @@ fn after_own(table: &[u32], i: usize, t: i32, dur: i32) -> Mark
 }
 
 // The next mark after t of the tags that a table stands for, at every depth, in a line of dur milliseconds.
-pub fn next_after(table: &[u32], t: i32, dur: i32) -> Mark
+fn next_after(table: &[u32], t: i32, dur: i32) -> Mark
     requires { ⌜ t <ℤ pos most ⌝ }
     ensures { λ r. ⌜ r ≡ nextMark t dur (tagsOf (now (table .entry))) ⌝ }
 {
