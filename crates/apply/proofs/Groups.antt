@@ -9,7 +9,8 @@ use lib.IntN.{ℤ}
 use lib.ListN.{List·getD-eq-default}
 use borrow.Author.Tests.{eqb-true, eqb-false, leb-true, leb-false, ne-eqb}
 use Rattle.tag.specs.declared.Record.{Record}
-use Rattle.tag.specs.Tag.{AnimatedTag, Karaoke, Fill}
+use Rattle.tag.specs.Tag.{AnimatedTag, Karaoke, cs}
+use Rattle.tag.specs.declared.KaraokeKind.the-variants.{Fill}
 use Rattle.tag.specs.WellFormed.{tKind}
 use Rattle.tag.specs.Decode.{decoders, nothing, decodeOne}
 use Rattle.state.specs.declared.RenderState.{RenderState}
@@ -53,7 +54,7 @@ group-past : (k : ℕ) → 50 ≤ k → groupOf k ≡ Group.Nothing
 unfolding groupOf groups
 group-past k h = List·getD-eq-default groups Group.Nothing h
 
-decode-past : (r : Record) → 50 ≤ r .kind → decodeOne r ≡ Karaoke Fill 0
+decode-past : (r : Record) → 50 ≤ r .kind → decodeOne r ≡ Karaoke Fill (cs 0)
 unfolding decodeOne decoders
 decode-past r h = ap (λ (g : Record → AnimatedTag). g r) (List·getD-eq-default (nothing ∷ decoders) nothing {n = r .kind} h)
 

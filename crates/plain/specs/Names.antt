@@ -7,7 +7,9 @@ use lib.Dec.{leb, eqb}
 use lib.Ieee.{Float}
 use lib.ListN.{getD}
 use Rattle.scan.specs.Scan.{bytes, pick, lower}
-use Rattle.tag.specs.Tag.{Part, Rgb, KaraokeKind, Fill, Sweep, Outline, AnimatedTag, Pos, Frz, Blur, Fscx, Fscy, Color1, Fs, ClipRect, ClipDrawing, Frx, Fry, Org, Bord, Xbord, Ybord, Shad, Xshad, Yshad, Fax, Fay, IClipRect, IClipDrawing, Color2, Color3, Color4, Alpha, Alpha1, Alpha2, Alpha3, Alpha4, Fsp, Q, An, A, Fe, I, U, S, P}
+use Rattle.tag.specs.Tag.{Part, Rgb, AnimatedTag, Pos, Frz, Blur, Fscx, Fscy, Color1, Fs, ClipRect, ClipDrawing, Frx, Fry, Org, Bord, Xbord, Ybord, Shad, Xshad, Yshad, Fax, Fay, IClipRect, IClipDrawing, Color2, Color3, Color4, Alpha, Alpha1, Alpha2, Alpha3, Alpha4, Fsp, Q, An, A, Fe, I, U, S, P}
+use Rattle.tag.specs.declared.KaraokeKind.{KaraokeKind}
+use Rattle.tag.specs.declared.KaraokeKind.the-variants.{Fill, Sweep, Outline}
 
 -- what a tag's parameter is
 pub data Shape : Type 0 where

@@ -16,7 +16,8 @@ use Rattle.colour.specs.Colour.{alphaAt, colourAt}
 use Rattle.colour.specs.declared.Colour.{Colour}
 use Rattle.colour.specs.declared.Colour.the-variants.{Rgb}
 use Rattle.tag.specs.Tag as Tag
-use Rattle.tag.specs.Tag.{AnimatedTag, absent, times, KaraokeKind, Fad, Fade, Move, Be, Pbo, B, R, Fn, Karaoke, plain, named}
+use Rattle.tag.specs.Tag.{AnimatedTag, absent, times, Fad, Fade, Move, Be, Pbo, B, R, Fn, Karaoke, cs, plain, named}
+use Rattle.tag.specs.declared.KaraokeKind.{KaraokeKind}
 use Rattle.plain.specs.Names.{Shape, float, pair, ranged, flag, alpha, colour, clip, beat, fad, fade, move, edge, baseline, weight, reset, unknown, names, lookup, keyOf, key, lowered, keyAt}
 
 -- what a tag gives: nothing, a numeral that is too long with its place, a tag, or a \fade whose times lie too far off
@@ -188,7 +189,7 @@ resetOf s p q =
 
 -- \k: `max(0.0).round() as u32`
 abbrev pub beatOf : KaraokeKind → Float → AnimatedTag
-beatOf k x = Karaoke k (toWord (roundAway (maxZero x)))
+beatOf k x = Karaoke k (cs (toWord (roundAway (maxZero x))))
 
 -- the parameter from p to q by its shape
 unfoldable pub shaped : Shape → List ℕ → ℕ → ℕ → One

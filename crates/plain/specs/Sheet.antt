@@ -12,7 +12,8 @@ use Rattle.float.specs.Float.{maxZero, roundAway, roundByte}
 use Rattle.numeral.specs.Numeral.{value, wholeNumber, i32Of, hexAt, splitAt, exponentAt, floatOf, f32Of}
 use Rattle.lists.specs.Lists.{split}
 use Rattle.colour.specs.Colour.{trimmed, ampersands, zeroXAt, digits, alphaAt, colourAt}
-use Rattle.tag.specs.Tag.{Part, Fad, Fade, Pos, Move, absent, times, Fs, Color1, ClipRect, ClipDrawing, Be, Alpha, An, Fn, R, plain, named, B, I, Karaoke, Sweep, Pbo}
+use Rattle.tag.specs.Tag.{Part, Fad, Fade, Pos, Move, absent, times, Fs, Color1, ClipRect, ClipDrawing, Be, Alpha, An, Fn, R, plain, named, B, I, Karaoke, cs, Pbo}
+use Rattle.tag.specs.declared.KaraokeKind.the-variants.{Sweep}
 use Rattle.plain.specs.Names.{names, lookup, lowered, keyAt}
 use Rattle.plain.specs.Plain.{One, no, long, kept, far, part, f32s, i32s, allFloats, floatsIn, allInts, intsIn, unlessLong, pairOf, moveOf, fadOf, fadeOf, rangedOf, weightOf, flagOf, clipOf, resetOf, shaped, isFn, isNamedReset, plainAt}
 
@@ -44,8 +45,8 @@ pub floats : Gives (
     ("be", "2.5", kept (Be 3)) ∷
     ("be", "-1", kept (Be 0)) ∷
     ("pbo", "0.5", kept (Pbo (pos 1))) ∷
-    ("K", "5", kept (Karaoke Sweep 5)) ∷
-    ("kf", "-5", kept (Karaoke Sweep 0)) ∷
+    ("K", "5", kept (Karaoke Sweep (cs 5))) ∷
+    ("kf", "-5", kept (Karaoke Sweep (cs 0))) ∷
     [])
 unfolding span skip skipBack blankAt blankBefore value splitAt exponentAt floatOf f32Of round lt maxZero roundAway roundByte names lookup lowered keyAt isFn isNamedReset shaped plainAt
 floats = refl

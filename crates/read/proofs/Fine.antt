@@ -22,7 +22,9 @@ use Rattle.survey.specs.Survey.{Unplain}
 use Rattle.survey.proofs.Long.{Ends}
 use Rattle.colour.specs.Colour.{isAmpersand, trimmed, ampersands, digits, alphaAt, colourAt, cap, rgb}
 use Rattle.tag.specs.Tag as Tag
-use Rattle.tag.specs.Tag.{AnimatedTag, KaraokeKind, Fill, Sweep, Outline, Fad, Fade, Be, Pbo, B, Fn, R, named}
+use Rattle.tag.specs.Tag.{AnimatedTag, Fad, Fade, Be, Pbo, B, Fn, R, named}
+use Rattle.tag.specs.declared.KaraokeKind.{KaraokeKind}
+use Rattle.tag.specs.declared.KaraokeKind.the-variants.{Fill, Sweep, Outline}
 use Rattle.tag.specs.Decode.{decoders, decodeOne}
 use Rattle.tag.specs.Range.{range, rows, inRange}
 use Rattle.plain.specs.Names.{Shape, float, pair, ranged, flag, alpha, colour, clip, beat, fad, fade, move, edge, baseline, weight, reset, unknown, names, lookup, keyAt}

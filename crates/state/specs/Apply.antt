@@ -9,7 +9,7 @@ use lib.Ieee.{Float, binary32, mul, div, sub, le, ofInt}
 use lib.ListN.{getD}
 use Rattle.scan.specs.Scan.{pick, within}
 use Rattle.float.specs.Float.{zero, one, maxZero, clamp, lerp, toRadians}
-use Rattle.tag.specs.Tag.{Part as TagPart, Times, absent, times, Rgb as TagRgb, KaraokeKind, Reset, plain, named, AnimatedTag, Fad, Fade, Pos, Move, Frz, Blur, Fscx, Fscy, Color1, Fs, ClipRect, ClipDrawing, Frx, Fry, Org, Bord, Xbord, Ybord, Shad, Xshad, Yshad, Be, Fax, Fay, IClipRect, IClipDrawing, Color2, Color3, Color4, Alpha, Alpha1, Alpha2, Alpha3, Alpha4, Fsp, Q, An, A, Fn, Fe, R, B, I, U, S, Karaoke, Pbo, P, T, Tags, foldTag, foldTags}
+use Rattle.tag.specs.Tag.{Part as TagPart, Times, absent, times, Rgb as TagRgb, Reset, plain, named, AnimatedTag, Fad, Fade, Pos, Move, Frz, Blur, Fscx, Fscy, Color1, Fs, ClipRect, ClipDrawing, Frx, Fry, Org, Bord, Xbord, Ybord, Shad, Xshad, Yshad, Be, Fax, Fay, IClipRect, IClipDrawing, Color2, Color3, Color4, Alpha, Alpha1, Alpha2, Alpha3, Alpha4, Fsp, Q, An, A, Fn, Fe, R, B, I, U, S, Karaoke, Pbo, P, T, Tags, foldTag, foldTags}
 use Rattle.state.specs.declared.OptF32.{OptF32}
 use Rattle.state.specs.declared.OptPair.{OptPair}
 use Rattle.state.specs.declared.OptRect.{OptRect}

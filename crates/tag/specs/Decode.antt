@@ -9,7 +9,9 @@ use lib.ListN.{length, getD, take, drop}
 use Rattle.scan.specs.Scan.{pick}
 use Rattle.float.specs.Float.{ofWord}
 use Rattle.tag.specs.declared.Record.{Record}
-use Rattle.tag.specs.Tag.{Part, Times, absent, times, Rgb, KaraokeKind, Fill, Sweep, Outline, Reset, plain, named, AnimatedTag, Fad, Fade, Pos, Move, Frz, Blur, Fscx, Fscy, Color1, Fs, ClipRect, ClipDrawing, Frx, Fry, Org, Bord, Xbord, Ybord, Shad, Xshad, Yshad, Be, Fax, Fay, IClipRect, IClipDrawing, Color2, Color3, Color4, Alpha, Alpha1, Alpha2, Alpha3, Alpha4, Fsp, Q, An, A, Fn, Fe, R, B, I, U, S, Karaoke, Pbo, P, T, Tags, none, and}
+use Rattle.tag.specs.Tag.{Part, Times, absent, times, Rgb, Reset, plain, named, AnimatedTag, Fad, Fade, Pos, Move, Frz, Blur, Fscx, Fscy, Color1, Fs, ClipRect, ClipDrawing, Frx, Fry, Org, Bord, Xbord, Ybord, Shad, Xshad, Yshad, Be, Fax, Fay, IClipRect, IClipDrawing, Color2, Color3, Color4, Alpha, Alpha1, Alpha2, Alpha3, Alpha4, Fsp, Q, An, A, Fn, Fe, R, B, I, U, S, Karaoke, cs, Pbo, P, T, Tags, none, and}
+use Rattle.tag.specs.declared.KaraokeKind.{KaraokeKind}
+use Rattle.tag.specs.declared.KaraokeKind.the-variants.{Fill, Sweep, Outline}
 use Rattle.tag.specs.WellFormed.{tKind, holds, recordsOf}
 
 -- ---- words
@@ -89,7 +91,7 @@ decoders =
     (λ r. I (flagOf (r .w1))) ∷
     (λ r. U (flagOf (r .w1))) ∷
     (λ r. S (flagOf (r .w1))) ∷
-    (λ r. Karaoke (beatOf (r .w1)) (r .w2)) ∷
+    (λ r. Karaoke (beatOf (r .w1)) (cs (r .w2))) ∷
     (λ r. Pbo (z (r .w1))) ∷
     (λ r. P (r .w1)) ∷
     (λ r. T (timesOf (r .w1) (r .w2) (r .w3)) (f (r .w4)) none) ∷
@@ -97,7 +99,7 @@ decoders =
 
 -- a beat of no length, which does nothing
 abbrev pub nothing : Record → AnimatedTag
-nothing = λ r. Karaoke Fill 0
+nothing = λ r. Karaoke Fill (cs 0)
 
 -- the tag of a record in range; outside the kinds there is none, and `nothing` stands for it
 unfoldable pub decodeOne : Record → AnimatedTag

@@ -8,7 +8,9 @@ pub use Rattle.rows.specs.Rows.{bits}
 use Rattle.rows.specs.Rows.{laidRows}
 use Rattle.float.specs.Float.{toWord}
 use Rattle.tag.specs.declared.Record.{Record}
-use Rattle.tag.specs.Tag.{Part, Times, absent, times, Rgb, KaraokeKind, Fill, Sweep, Outline, Reset, plain, named, AnimatedTag, Fad, Fade, Pos, Move, Frz, Blur, Fscx, Fscy, Color1, Fs, ClipRect, ClipDrawing, Frx, Fry, Org, Bord, Xbord, Ybord, Shad, Xshad, Yshad, Be, Fax, Fay, IClipRect, IClipDrawing, Color2, Color3, Color4, Alpha, Alpha1, Alpha2, Alpha3, Alpha4, Fsp, Q, An, A, Fn, Fe, R, B, I, U, S, Karaoke, Pbo, P, T, Tags, foldTag, foldTags, count}
+use Rattle.tag.specs.Tag.{Part, Times, absent, times, Rgb, Reset, plain, named, AnimatedTag, Fad, Fade, Pos, Move, Frz, Blur, Fscx, Fscy, Color1, Fs, ClipRect, ClipDrawing, Frx, Fry, Org, Bord, Xbord, Ybord, Shad, Xshad, Yshad, Be, Fax, Fay, IClipRect, IClipDrawing, Color2, Color3, Color4, Alpha, Alpha1, Alpha2, Alpha3, Alpha4, Fsp, Q, An, A, Fn, Fe, R, B, I, U, S, Karaoke, Pbo, P, T, Tags, foldTag, foldTags, count}
+use Rattle.tag.specs.declared.KaraokeKind.{KaraokeKind}
+use Rattle.tag.specs.declared.KaraokeKind.the-variants.{Fill, Sweep, Outline}
 
 -- the words of a record
 abbrev pub width : ℕ
@@ -116,7 +118,7 @@ head (B n) = oneNumber 42 n
 head (I b) = oneNumber 43 (flagWord b)
 head (U b) = oneNumber 44 (flagWord b)
 head (S b) = oneNumber 45 (flagWord b)
-head (Karaoke k n) = rec 46 (kindWord k) n 0 0 0 0 0
+head (Karaoke k n) = rec 46 (kindWord k) (n .0) 0 0 0 0 0
 head (Pbo z) = oneNumber 47 (toWord z)
 head (P n) = oneNumber 48 n
 head (T t x l) = tRecord t x (count l)

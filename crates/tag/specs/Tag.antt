@@ -5,6 +5,8 @@ use mathlib.Core.List.{List, [], _∷_, _++_}
 use mathlib.Core.Bool.{Bool}
 use lib.IntN.{ℤ}
 use lib.Ieee.{Float}
+use Rattle.tag.specs.declared.KaraokeKind.{KaraokeKind}
+use Rattle.tag.specs.declared.Cs.{Cs}
 
 -- 01, Reading: "At depth 8 a \t is dropped with its parameter unread"; a table's T nest no deeper
 abbrev pub mostDepth : ℕ
@@ -25,11 +27,9 @@ pub record Rgb : Type 0 where
   pub green : ℕ
   pub blue : ℕ
 
--- \k, \kf and \K, \ko
-pub data KaraokeKind : Type 0 where
-  Fill : KaraokeKind
-  Sweep : KaraokeKind
-  Outline : KaraokeKind
+-- so many centiseconds
+abbrev pub cs : ℕ → Cs
+cs n = record { 0 = n }
 
 -- `Option<String>` of \r: the line's own style, or the named one
 pub data Reset : Type 0 where
@@ -112,7 +112,7 @@ mutual
     U : Bool → AnimatedTag
     S : Bool → AnimatedTag
     -- \k, \kf, \K, \ko: a syllable's length in centiseconds
-    Karaoke : KaraokeKind → ℕ → AnimatedTag
+    Karaoke : KaraokeKind → Cs → AnimatedTag
     -- \pbo: offset of a drawing's baseline
     Pbo : ℤ → AnimatedTag
     -- \p: drawing mode and its scale

@@ -15,6 +15,16 @@ pub struct Record {
     pub w7: u32,
 }
 
+// Which of the \k tags: \k, \kf and \K, \ko.
+pub enum KaraokeKind {
+    Fill,
+    Sweep,
+    Outline,
+}
+
+// Centiseconds, in which a karaoke tag counts: never taken for milliseconds.
+pub struct Cs(pub u32);
+
 // Writes a record at the front of the table, where there is room for it.
 pub fn put(table: &mut [u32], r: Record)
     ensures { λ _. ⌜ now (table .exit) ≡ laid (now (table .entry)) (r ∷ []) ⌝ }
