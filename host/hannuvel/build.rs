@@ -16,9 +16,7 @@ fn main() {
     println!("cargo:rerun-if-env-changed=HANNUVEL_ARCHIVES");
     let target = env::var("TARGET").unwrap_or_default();
     if !target.starts_with("x86_64-") || !target.contains("linux") {
-        stop(&format!(
-            "the proved library is for x86-64 Linux, and this is {target}"
-        ));
+        stop(&format!("the proved library is for x86-64 Linux, and this is {target}"));
     }
     let folder = match env::var_os("HANNUVEL_ARCHIVES") {
         Some(folder) => given(PathBuf::from(folder)),
@@ -38,20 +36,14 @@ fn stop(reason: &str) -> ! {
 fn given(folder: PathBuf) -> PathBuf {
     let folder = fs::canonicalize(&folder).unwrap_or(folder);
     if !folder.join(ARCHIVE).is_file() {
-        stop(&format!(
-            "HANNUVEL_ARCHIVES names {}, where no {ARCHIVE} is",
-            folder.display()
-        ));
+        stop(&format!("HANNUVEL_ARCHIVES names {}, where no {ARCHIVE} is", folder.display()));
     }
     folder
 }
 
 fn repository() -> PathBuf {
     let here = PathBuf::from(env::var_os("CARGO_MANIFEST_DIR").expect("cargo runs this"));
-    here.ancestors()
-        .nth(2)
-        .expect("the crate is host/hannuvel of the repository")
-        .to_owned()
+    here.ancestors().nth(2).expect("the crate is host/hannuvel of the repository").to_owned()
 }
 
 fn made(repository: &Path) -> PathBuf {
@@ -73,10 +65,7 @@ fn newest(path: &Path) -> Option<SystemTime> {
     let Ok(entries) = fs::read_dir(path) else {
         return fs::metadata(path).and_then(|file| file.modified()).ok();
     };
-    entries
-        .flatten()
-        .filter_map(|entry| newest(&entry.path()))
-        .max()
+    entries.flatten().filter_map(|entry| newest(&entry.path())).max()
 }
 
 fn prove(repository: &Path) {
@@ -84,10 +73,7 @@ fn prove(repository: &Path) {
     teller.tell("proving and building the library, which takes minutes the first time");
     let mut said = Vec::new();
     let ended = run_rt(repository, |line| {
-        if let Some(news) = line
-            .strip_prefix("rt: ")
-            .filter(|news| !news.contains("unchanged"))
-        {
+        if let Some(news) = line.strip_prefix("rt: ").filter(|news| !news.contains("unchanged")) {
             teller.tell(news);
         }
         said.push(line);
@@ -117,10 +103,7 @@ fn run_rt(repository: &Path, mut hear: impl FnMut(String)) -> io::Result<ExitSta
         .stdout(said.try_clone()?)
         .stderr(said)
         .spawn()?;
-    BufReader::new(lines)
-        .lines()
-        .map_while(Result::ok)
-        .for_each(&mut hear);
+    BufReader::new(lines).lines().map_while(Result::ok).for_each(&mut hear);
     run.wait()
 }
 

@@ -31,9 +31,7 @@ pub fn parse_drawing<'p>(
 ) -> Result<Path<'p>, Refusal> {
     let path = path.as_mut();
     let places = words::parse_drawing(text.as_ref(), scale_exp, path)?;
-    Ok(Path {
-        commands: &path.as_chunks().0[..places],
-    })
+    Ok(Path { commands: &path.as_chunks().0[..places] })
 }
 
 /// Splits the argument of a \clip into the scale exponent, at least 1, and the drawing.
@@ -91,11 +89,7 @@ impl PathCommand {
         match command {
             1 => PathCommand::MoveTo(point(x1, y1)),
             2 => PathCommand::LineTo(point(x1, y1)),
-            3 => PathCommand::CubicTo {
-                c1: point(x1, y1),
-                c2: point(x2, y2),
-                end: point(x3, y3),
-            },
+            3 => PathCommand::CubicTo { c1: point(x1, y1), c2: point(x2, y2), end: point(x3, y3) },
             4 => PathCommand::Close,
             _ => unreachable!("the library has four path commands"),
         }
@@ -150,9 +144,7 @@ impl<'p> Path<'p> {
     /// # Ok::<(), hannuvel::Refusal>(())
     /// ```
     pub fn iter(&self) -> Commands<'p> {
-        Commands {
-            commands: self.commands.iter(),
-        }
+        Commands { commands: self.commands.iter() }
     }
 }
 

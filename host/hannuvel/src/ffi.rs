@@ -9,42 +9,15 @@
 use crate::STATE_WORDS;
 
 unsafe extern "C" {
-    fn hannuvel_parse_overrides(
-        text: *const u8,
-        bytes: usize,
-        table: *mut u32,
-        words: usize,
-    ) -> u64;
-    fn hannuvel_parse_raw_block(
-        text: *const u8,
-        bytes: usize,
-        table: *mut u32,
-        words: usize,
-    ) -> u64;
-    fn hannuvel_evaluate_at(
-        table: *const u32,
-        words: usize,
-        t: i32,
-        duration: i32,
-        state: *mut u32,
-    ) -> u64;
+    fn hannuvel_parse_overrides(text: *const u8, bytes: usize, table: *mut u32, words: usize) -> u64;
+    fn hannuvel_parse_raw_block(text: *const u8, bytes: usize, table: *mut u32, words: usize) -> u64;
+    fn hannuvel_evaluate_at(table: *const u32, words: usize, t: i32, duration: i32, state: *mut u32) -> u64;
     fn hannuvel_next_mark(table: *const u32, words: usize, t: i32, duration: i32) -> u64;
-    fn hannuvel_karaoke_spans(
-        table: *const u32,
-        words: usize,
-        spans: *mut u32,
-        span_words: usize,
-    ) -> u64;
+    fn hannuvel_karaoke_spans(table: *const u32, words: usize, spans: *mut u32, span_words: usize) -> u64;
     /// Safe to call with any numbers: it is lent no memory.
     safe fn hannuvel_progress(start: u32, end: u32, t: i32) -> u64;
     fn hannuvel_split_clip_arg(text: *const u8, bytes: usize) -> u64;
-    fn hannuvel_parse_drawing(
-        text: *const u8,
-        bytes: usize,
-        exponent: u32,
-        path: *mut u32,
-        words: usize,
-    ) -> u64;
+    fn hannuvel_parse_drawing(text: *const u8, bytes: usize, exponent: u32, path: *mut u32, words: usize) -> u64;
     fn hannuvel_style_in_force(
         table: *const u32,
         words: usize,
@@ -93,15 +66,7 @@ pub fn split_clip_arg(text: &[u8]) -> u64 {
 
 pub fn parse_drawing(text: &[u8], exponent: u32, path: &mut [u32]) -> u64 {
     // SAFETY: a text and a path table, each with its own length; any exponent is answered or refused.
-    unsafe {
-        hannuvel_parse_drawing(
-            text.as_ptr(),
-            text.len(),
-            exponent,
-            path.as_mut_ptr(),
-            path.len(),
-        )
-    }
+    unsafe { hannuvel_parse_drawing(text.as_ptr(), text.len(), exponent, path.as_mut_ptr(), path.len()) }
 }
 
 pub fn style_in_force(table: &[u32], t: i32, duration: i32, block: &[u8], own: &[u8]) -> u64 {

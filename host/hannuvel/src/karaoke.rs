@@ -38,11 +38,7 @@ pub struct KaraokeSpan {
 
 impl KaraokeSpan {
     fn of(&[kind, start_ms, end_ms]: &[u32; SPAN_WORDS]) -> Self {
-        KaraokeSpan {
-            kind: KaraokeKind::of(kind),
-            start_ms,
-            end_ms,
-        }
+        KaraokeSpan { kind: KaraokeKind::of(kind), start_ms, end_ms }
     }
 
     /// How far the instant t is through the syllable, 0 up to its start and 1 from its end on: for a
@@ -73,9 +69,7 @@ pub struct KaraokeSpans<'l> {
 impl<'l> KaraokeSpans<'l> {
     /// What a call answered with so many spans wrote.
     pub(crate) fn written(list: &'l [u32], places: usize) -> Self {
-        KaraokeSpans {
-            spans: &list.as_chunks().0[..places],
-        }
+        KaraokeSpans { spans: &list.as_chunks().0[..places] }
     }
 
     /// How many there are.
@@ -124,9 +118,7 @@ impl<'l> KaraokeSpans<'l> {
     /// # Ok::<(), hannuvel::Refusal>(())
     /// ```
     pub fn iter(&self) -> SpanIter<'l> {
-        SpanIter {
-            spans: self.spans.iter(),
-        }
+        SpanIter { spans: self.spans.iter() }
     }
 }
 

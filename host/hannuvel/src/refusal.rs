@@ -111,10 +111,7 @@ impl fmt::Display for Refusal {
             Refusal::NotAscii(place) => write!(f, "a byte is 128 or more, at byte {place}"),
             Refusal::NumeralTooLong(place) => write!(f, "a numeral is too long, at byte {place}"),
             Refusal::FadeTooFar(place) => {
-                write!(
-                    f,
-                    "a time of a \\fade lies beyond 1000000000 ms, at byte {place}"
-                )
+                write!(f, "a time of a \\fade lies beyond 1000000000 ms, at byte {place}")
             }
             Refusal::TableMalformed(place) => {
                 write!(f, "the table is not well formed, at record {place}")
@@ -169,10 +166,7 @@ mod tests {
     fn an_answer_is_its_value_and_extra() {
         assert_eq!(Answer::of(0), Ok(Answer { value: 0, extra: 0 }));
         let (value, extra) = (u32::MAX, u16::MAX);
-        assert_eq!(
-            Answer::of(0x0000_FFFF_FFFF_FFFF),
-            Ok(Answer { value, extra })
-        );
+        assert_eq!(Answer::of(0x0000_FFFF_FFFF_FFFF), Ok(Answer { value, extra }));
     }
 
     #[test]
@@ -191,10 +185,7 @@ mod tests {
             let sentence = refusal.to_string();
             let stated = refusal.place().or(refusal.count());
             assert_eq!(sentence.contains("17"), stated.is_some(), "{sentence}");
-            assert!(
-                !sentence.ends_with('.') && !sentence.contains('\n'),
-                "{sentence}"
-            );
+            assert!(!sentence.ends_with('.') && !sentence.contains('\n'), "{sentence}");
             let _: &dyn Error = &refusal;
         }
     }

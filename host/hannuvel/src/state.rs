@@ -102,10 +102,7 @@ impl<'t> RenderState<'t> {
 
     /// The state of 92 words, whose parts lie in the text.
     pub(crate) fn of(words: &[u32; STATE_WORDS], text: &'t str) -> Self {
-        let mut next = Fields {
-            words: words.iter(),
-            text,
-        };
+        let mut next = Fields { words: words.iter(), text };
         RenderState {
             alpha_mul: next.float(),
             rotate_radians: next.float(),
@@ -209,10 +206,7 @@ impl<'t> Fields<'_, 't> {
     }
 
     fn font_name(&mut self) -> FontName<'t> {
-        FontName {
-            letters: self.part(),
-            parameter: self.part(),
-        }
+        FontName { letters: self.part(), parameter: self.part() }
     }
 
     /// A flag and a field, whose words are 0 where it is absent.
@@ -240,10 +234,7 @@ mod tests {
     #[test]
     fn every_word_of_a_state_is_taken() {
         let words = [0; STATE_WORDS];
-        let mut next = Fields {
-            words: words.iter(),
-            text: "",
-        };
+        let mut next = Fields { words: words.iter(), text: "" };
         let state = RenderState::of(&words, "");
         assert_eq!(state.alpha_mul, 0.0);
         for _ in 0..STATE_WORDS {

@@ -15,9 +15,9 @@ pub enum StyleName<'t> {
 impl<'t> StyleName<'t> {
     pub(crate) fn of(style: words::Style, block: &'t str, own: &'t [u8]) -> Self {
         match style {
-            words::Style::Block(part) => StyleName::Block(
-                Part::get(block, part.start, part.len()).expect("a part of the block"),
-            ),
+            words::Style::Block(part) => {
+                StyleName::Block(Part::get(block, part.start, part.len()).expect("a part of the block"))
+            }
             words::Style::Own(part) => {
                 StyleName::Own(str::from_utf8(&own[part]).expect("a name that is taken is ASCII"))
             }

@@ -25,9 +25,7 @@ impl<const PLACES: usize> Table<PLACES> {
     /// assert_eq!(EMPTY.words(), [0; 128]);
     /// ```
     pub const fn new() -> Self {
-        Table {
-            records: [[0; RECORD_WORDS]; PLACES],
-        }
+        Table { records: [[0; RECORD_WORDS]; PLACES] }
     }
 
     /// All its words.
@@ -94,9 +92,7 @@ impl<const PLACES: usize> SpanList<PLACES> {
     /// assert_eq!(hannuvel::SpanList::<2>::new().words(), [0; 6]);
     /// ```
     pub const fn new() -> Self {
-        SpanList {
-            spans: [[0; SPAN_WORDS]; PLACES],
-        }
+        SpanList { spans: [[0; SPAN_WORDS]; PLACES] }
     }
 
     /// All its words.

@@ -58,14 +58,8 @@ impl<'t> Tag<'t> {
     /// ```
     pub fn name(&self) -> &'static str {
         match self.value() {
-            AnimatedTag::Karaoke {
-                kind: KaraokeKind::Sweep,
-                ..
-            } => "kf",
-            AnimatedTag::Karaoke {
-                kind: KaraokeKind::Outline,
-                ..
-            } => "ko",
+            AnimatedTag::Karaoke { kind: KaraokeKind::Sweep, .. } => "kf",
+            AnimatedTag::Karaoke { kind: KaraokeKind::Outline, .. } => "ko",
             _ => NAMES[self.kind() as usize - 1],
         }
     }
@@ -115,14 +109,7 @@ impl<'t> Tag<'t> {
                 t4_ms: g as i32,
             },
             3 => Pos { x: x1, y: y1 },
-            4 => Move {
-                x1,
-                y1,
-                x2,
-                y2,
-                t1_ms: time(e, f),
-                t2_ms: time(e, g),
-            },
+            4 => Move { x1, y1, x2, y2, t1_ms: time(e, f), t2_ms: time(e, g) },
             5 => Frz(x1),
             6 => Blur(x1),
             7 => Fscx(x1),
@@ -157,28 +144,17 @@ impl<'t> Tag<'t> {
             36 => Q(byte),
             37 => An(byte),
             38 => A(byte),
-            39 => Fn(FontName {
-                letters: part(a, b),
-                parameter: part(c, d),
-            }),
+            39 => Fn(FontName { letters: part(a, b), parameter: part(c, d) }),
             40 => Fe(byte),
             41 => R(flag.then(|| part(b, c))),
             42 => B(a as u16),
             43 => I(flag),
             44 => U(flag),
             45 => S(flag),
-            46 => Karaoke {
-                kind: KaraokeKind::of(a),
-                cs: b,
-            },
+            46 => Karaoke { kind: KaraokeKind::of(a), cs: b },
             47 => Pbo(a as i32),
             48 => P(byte),
-            49 => T {
-                t1_ms: time(a, b),
-                t2_ms: time(a, c),
-                accel: f32::from_bits(d),
-                inner: self.inner,
-            },
+            49 => T { t1_ms: time(a, b), t2_ms: time(a, c), accel: f32::from_bits(d), inner: self.inner },
             _ => unreachable!("a well-formed table has kinds 1 to 49"),
         }
     }
@@ -190,10 +166,9 @@ fn time(flag: u32, word: u32) -> Option<i32> {
 
 /// The names of the kinds from 1 on.
 const NAMES: [&str; 49] = [
-    "fad", "fade", "pos", "move", "frz", "blur", "fscx", "fscy", "1c", "fs", "clip", "clip", "frx",
-    "fry", "org", "bord", "xbord", "ybord", "shad", "xshad", "yshad", "be", "fax", "fay", "iclip",
-    "iclip", "2c", "3c", "4c", "alpha", "1a", "2a", "3a", "4a", "fsp", "q", "an", "a", "fn", "fe",
-    "r", "b", "i", "u", "s", "k", "pbo", "p", "t",
+    "fad", "fade", "pos", "move", "frz", "blur", "fscx", "fscy", "1c", "fs", "clip", "clip", "frx", "fry", "org",
+    "bord", "xbord", "ybord", "shad", "xshad", "yshad", "be", "fax", "fay", "iclip", "iclip", "2c", "3c", "4c",
+    "alpha", "1a", "2a", "3a", "4a", "fsp", "q", "an", "a", "fn", "fe", "r", "b", "i", "u", "s", "k", "pbo", "p", "t",
 ];
 
 /// What a tag says: the cases of the Rust's `AnimatedTag`, in its order and by its names. A colour is red, green and

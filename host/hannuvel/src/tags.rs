@@ -95,12 +95,7 @@ impl<'t> Tags<'t> {
         words::next_mark(table, 0, 0)?;
         let tags = Tags::read(text, table, table.len() / RECORD_WORDS);
         let inside = |&[offset, length]: &[u32; 2]| offset as usize + length as usize <= text.len();
-        match tags
-            .records
-            .iter()
-            .flat_map(parts)
-            .all(|part| inside(&part))
-        {
+        match tags.records.iter().flat_map(parts).all(|part| inside(&part)) {
             true => Ok(tags),
             false => Err(Refusal::NameBeyondText),
         }
@@ -178,11 +173,7 @@ impl<'t> Tags<'t> {
     /// assert_eq!(state.font_size, None);
     /// # Ok::<(), hannuvel::Refusal>(())
     /// ```
-    pub fn evaluate_at(
-        &self,
-        t_in_cue_ms: i32,
-        cue_duration_ms: i32,
-    ) -> Result<RenderState<'t>, Refusal> {
+    pub fn evaluate_at(&self, t_in_cue_ms: i32, cue_duration_ms: i32) -> Result<RenderState<'t>, Refusal> {
         let mut state = [0; STATE_WORDS];
         words::evaluate_at(self.words(), t_in_cue_ms, cue_duration_ms, &mut state)?;
         Ok(RenderState::of(&state, self.text))
@@ -202,11 +193,7 @@ impl<'t> Tags<'t> {
     /// assert_eq!(tags.next_mark(1000, 1000)?, None);
     /// # Ok::<(), hannuvel::Refusal>(())
     /// ```
-    pub fn next_mark(
-        &self,
-        t_in_cue_ms: i32,
-        cue_duration_ms: i32,
-    ) -> Result<Option<i32>, Refusal> {
+    pub fn next_mark(&self, t_in_cue_ms: i32, cue_duration_ms: i32) -> Result<Option<i32>, Refusal> {
         words::next_mark(self.words(), t_in_cue_ms, cue_duration_ms)
     }
 
@@ -229,10 +216,7 @@ impl<'t> Tags<'t> {
     /// ]);
     /// # Ok::<(), hannuvel::Refusal>(())
     /// ```
-    pub fn karaoke_spans<'l>(
-        &self,
-        list: &'l mut (impl AsMut<[u32]> + ?Sized),
-    ) -> Result<KaraokeSpans<'l>, Refusal> {
+    pub fn karaoke_spans<'l>(&self, list: &'l mut (impl AsMut<[u32]> + ?Sized)) -> Result<KaraokeSpans<'l>, Refusal> {
         let list = list.as_mut();
         let places = words::karaoke_spans(self.words(), list)?;
         Ok(KaraokeSpans::written(list, places))
@@ -270,16 +254,8 @@ impl<'t> Tags<'t> {
     fn split_first(self) -> Option<(Tag<'t>, Tags<'t>)> {
         let (record, behind) = self.records.split_first()?;
         let (inner, rest) = behind.split_at(inside(record));
-        let from = |records: &'t [[u32; RECORD_WORDS]], first| Tags {
-            text: self.text,
-            records,
-            first,
-        };
-        let tag = Tag {
-            record,
-            place: self.first,
-            inner: from(inner, self.first + 1),
-        };
+        let from = |records: &'t [[u32; RECORD_WORDS]], first| Tags { text: self.text, records, first };
+        let tag = Tag { record, place: self.first, inner: from(inner, self.first + 1) };
         Some((tag, from(rest, self.first + 1 + inner.len())))
     }
 }
@@ -313,9 +289,7 @@ impl PartialEq for Tags<'_> {
 
 impl fmt::Debug for Tags<'_> {
     fn fmt(&self, f: &mut fmt::Formatter) -> fmt::Result {
-        f.debug_list()
-            .entries(self.iter().map(|tag| tag.value()))
-            .finish()
+        f.debug_list().entries(self.iter().map(|tag| tag.value())).finish()
     }
 }
 

@@ -41,12 +41,7 @@ pub fn parse_raw_block(text: &[u8], table: &mut [u32]) -> Result<usize, Refusal>
 /// assert_eq!(hannuvel::words::evaluate_at(&size, 0, 1000, &mut state), Ok(()));
 /// assert_eq!(state[22..24], [1, 20f32.to_bits()]);
 /// ```
-pub fn evaluate_at(
-    table: &[u32],
-    t: i32,
-    duration: i32,
-    state: &mut [u32; STATE_WORDS],
-) -> Result<(), Refusal> {
+pub fn evaluate_at(table: &[u32], t: i32, duration: i32, state: &mut [u32; STATE_WORDS]) -> Result<(), Refusal> {
     Answer::of(ffi::evaluate_at(table, t, duration, state)).map(|_| ())
 }
 
@@ -126,18 +121,9 @@ pub enum Style {
 /// assert_eq!(style_in_force(&reset, 0, 1000, br"\rTop", b"Default"), Ok(Style::Block(2..5)));
 /// assert_eq!(style_in_force(&[], 0, 1000, b"", b"Default"), Ok(Style::Own(0..7)));
 /// ```
-pub fn style_in_force(
-    table: &[u32],
-    t: i32,
-    duration: i32,
-    block: &[u8],
-    own: &[u8],
-) -> Result<Style, Refusal> {
+pub fn style_in_force(table: &[u32], t: i32, duration: i32, block: &[u8], own: &[u8]) -> Result<Style, Refusal> {
     let answer = Answer::of(ffi::style_in_force(table, t, duration, block, own))?;
-    let (offset, length) = (
-        (answer.value >> 16) as usize,
-        (answer.value & 0xFFFF) as usize,
-    );
+    let (offset, length) = ((answer.value >> 16) as usize, (answer.value & 0xFFFF) as usize);
     let range = offset..offset + length;
     Ok(match answer.extra {
         0 => Style::Own(range),
