@@ -12,8 +12,8 @@ use std::time::SystemTime;
 const ARCHIVE: &str = "libhannuvel.a";
 
 fn main() {
-    println!("cargo:rerun-if-changed=build.rs");
-    println!("cargo:rerun-if-env-changed=HANNUVEL_ARCHIVES");
+    println!("cargo::rerun-if-changed=build.rs");
+    println!("cargo::rerun-if-env-changed=HANNUVEL_ARCHIVES");
     let target = env::var("TARGET").unwrap_or_default();
     if !target.starts_with("x86_64-") || !target.contains("linux") {
         stop(&format!("the proved library is for x86-64 Linux, and this is {target}"));
@@ -22,15 +22,15 @@ fn main() {
         Some(folder) => given(PathBuf::from(folder)),
         None => made(&repository()),
     };
-    println!("cargo:rerun-if-changed={}", folder.join(ARCHIVE).display());
-    println!("cargo:rustc-link-search=native={}", folder.display());
-    println!("cargo:rustc-link-lib=static=hannuvel");
+    println!("cargo::rerun-if-changed={}", folder.join(ARCHIVE).display());
+    println!("cargo::rustc-link-search=native={}", folder.display());
+    println!("cargo::rustc-link-lib=static=hannuvel");
 }
 
-/// Says why there is no library, and ends the build.
+/// Says why there is no library, which ends the build: cargo fails once the script that said so has ended.
 fn stop(reason: &str) -> ! {
-    eprintln!("hannuvel: {reason}");
-    exit(1);
+    println!("cargo::error={reason}");
+    exit(0);
 }
 
 fn given(folder: PathBuf) -> PathBuf {
@@ -49,7 +49,7 @@ fn repository() -> PathBuf {
 fn made(repository: &Path) -> PathBuf {
     let sources = [repository.join("crates"), repository.join("crates.txt")];
     for source in &sources {
-        println!("cargo:rerun-if-changed={}", source.display());
+        println!("cargo::rerun-if-changed={}", source.display());
     }
     let folder = repository.join("target/staticlib");
     let written = fs::metadata(folder.join(ARCHIVE)).and_then(|archive| archive.modified());
@@ -82,7 +82,9 @@ fn prove(repository: &Path) {
     match ended {
         Ok(status) if status.success() => {}
         Ok(status) => {
-            eprintln!("{}", said[said.len().saturating_sub(40)..].join("\n"));
+            for line in &said[said.len().saturating_sub(40)..] {
+                println!("cargo::error={line}");
+            }
             stop(&format!("rt staticlib hannuvel: {status}"));
         }
         Err(error) if error.kind() == io::ErrorKind::NotFound => stop(

@@ -61,3 +61,7 @@ pub const MOST_MS: i32 = 1_000_000_000;
 pub const MOST_EXPONENT: u32 = 32;
 /// How deep one \t may stand inside another.
 pub const MOST_DEPTH: usize = 8;
+
+#[cfg(doctest)]
+#[doc = include_str!("../../README.md")]
+struct Readme;

@@ -231,15 +231,61 @@ impl<'t> Fields<'_, 't> {
 mod tests {
     use super::*;
 
+    /// Words that hold their own number as an f32 or as it is, with all flags set: what a field gives then is the
+    /// place that include/hannuvel.h has for it.
     #[test]
-    fn every_word_of_a_state_is_taken() {
-        let words = [0; STATE_WORDS];
-        let mut next = Fields { words: words.iter(), text: "" };
-        let state = RenderState::of(&words, "");
-        assert_eq!(state.alpha_mul, 0.0);
-        for _ in 0..STATE_WORDS {
-            next.word();
-        }
-        assert_eq!(next.words.next(), None);
+    fn every_field_is_taken_from_its_words() {
+        let floats = [0..10, 11..15, 23..24, 25..27, 28..30, 31..33, 34..36, 37..41, 65..66];
+        let flags = [
+            6, 10, 15, 18, 22, 24, 27, 30, 36, 41, 44, 48, 52, 56, 58, 60, 62, 64, 66, 68, 70, 75, 77, 82, 84, 86, 88,
+            90,
+        ];
+        let mut words: [u32; STATE_WORDS] = std::array::from_fn(|place| place as u32);
+        floats.into_iter().flatten().for_each(|place| words[place] = (place as f32).to_bits());
+        flags.into_iter().for_each(|place| words[place] = 1);
+        (words[79], words[83], words[85], words[87]) = (2, 1, 0, 1);
+        let text = "x".repeat(200);
+        let part = |offset: usize, length: usize| Part::get(&text, offset, length).unwrap();
+        let rect = |x1, y1, x2, y2| ClipRect { x1, y1, x2, y2 };
+        let expected = RenderState {
+            alpha_mul: 0.0,
+            rotate_radians: 1.0,
+            rotate_x_radians: 2.0,
+            rotate_y_radians: 3.0,
+            scale: (4.0, 5.0),
+            translate: Some((7.0, 8.0)),
+            blur_sigma: 9.0,
+            clip_rect: Some(rect(11.0, 12.0, 13.0, 14.0)),
+            clip_drawing: Some(part(16, 17)),
+            primary_color: Some((19, 20, 21)),
+            font_size: Some(23.0),
+            pivot: Some((25.0, 26.0)),
+            border: Some((28.0, 29.0)),
+            shadow: Some((31.0, 32.0)),
+            be_strength: 33,
+            shear: (34.0, 35.0),
+            iclip_rect: Some(rect(37.0, 38.0, 39.0, 40.0)),
+            iclip_drawing: Some(part(42, 43)),
+            secondary_color: Some((45, 46, 47)),
+            outline_color: Some((49, 50, 51)),
+            shadow_color: Some((53, 54, 55)),
+            primary_alpha: Some(57),
+            secondary_alpha: Some(59),
+            outline_alpha: Some(61),
+            shadow_alpha: Some(63),
+            letter_spacing: Some(65.0),
+            wrap_style: Some(67),
+            alignment: Some(69),
+            font_name: Some(FontName { letters: part(71, 72), parameter: part(73, 74) }),
+            font_encoding: Some(76),
+            bold_weight: Some(78),
+            reset_to_style: Some(Some(part(80, 81))),
+            italic: Some(true),
+            underline: Some(false),
+            strikeout: Some(true),
+            drawing_baseline_offset: Some(89),
+            drawing_scale: Some(91),
+        };
+        assert_eq!(RenderState::of(&words, &text), expected);
     }
 }

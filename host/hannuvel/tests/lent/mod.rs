@@ -26,7 +26,7 @@ impl Lent {
             return 0..0;
         };
         let from = |place: usize| place as isize - GUARD as isize;
-        from(first)..from(places.last().unwrap_or(first)) + 1
+        from(first)..from(places.next_back().unwrap_or(first)) + 1
     }
 }
 
