@@ -47,6 +47,9 @@ if listed hannuvel; then
     rt staticlib hannuvel || fail "rt staticlib hannuvel ended with status $?"
     say "the example in C"
     examples/c/check.sh || fail "examples/c/check.sh ended with status $?"
+    say "the crate in Rust"
+    (cd host && CARGO_TARGET_DIR=$PWD/target cargo test --offline --release -p hannuvel) ||
+        fail "cargo test of the crate in Rust ended with status $?"
 else
     say "NOT RUN: crates.txt has no hannuvel, so there is no C interface to compare"
 fi

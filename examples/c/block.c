@@ -1,5 +1,6 @@
-/* Reads an override block and prints its tags, the instants at which the picture may move, and its state at given
- * instants: an example of the calls in include/hannuvel.h. All memory is on the stack, and of a fixed size. */
+/* Reads an override block and prints its tags, the instants at which the picture may move, its karaoke syllables, and
+ * its state and style at given instants: an example of the calls in include/hannuvel.h. All memory is on the stack, and
+ * of a fixed size. */
 #include "hannuvel.h"
 
 #include <stdio.h>
@@ -76,6 +77,17 @@ static const struct plain {
 
 #define COUNT(array) (sizeof(array) / sizeof *(array))
 
+/* A line of subtitles: its block, its own style, and what was read from the block. */
+struct line {
+    const char *text;
+    const char *style;
+    int32_t duration;
+    uint32_t table[PLACES * HANNUVEL_RECORD_WORDS];
+    size_t words;
+    uint32_t spans[PLACES * HANNUVEL_SPAN_WORDS];
+    uint32_t syllables;
+};
+
 /* A call that is refused ends the program. */
 static uint32_t answered(const char *call, uint64_t answer) {
     if (hannuvel_ground(answer) != HANNUVEL_ANSWERED) {
@@ -112,14 +124,23 @@ static void print_tags(const char *text, const uint32_t *table, uint32_t records
     }
 }
 
+/* Reads the line's block and works out its syllables. */
+static void read_line(struct line *line) {
+    const uint8_t *text = (const uint8_t *)line->text;
+    uint64_t read = hannuvel_parse_raw_block(text, strlen(line->text), line->table, COUNT(line->table));
+    line->words = (size_t)answered("parse_raw_block", read) * HANNUVEL_RECORD_WORDS;
+    uint64_t sung = hannuvel_karaoke_spans(line->table, line->words, line->spans, COUNT(line->spans));
+    line->syllables = answered("karaoke_spans", sung);
+}
+
 /* Prints the marks from the line's start to its end as ranges of milliseconds: outside them nothing moves. */
-static void print_marks(const uint32_t *table, size_t words, int32_t duration) {
+static void print_marks(const struct line *line) {
     int32_t first = 0, last = -1;
     printf("the picture may move at");
     for (;;) {
-        uint64_t answer = hannuvel_next_mark(table, words, last, duration);
+        uint64_t answer = hannuvel_next_mark(line->table, line->words, last, line->duration);
         int32_t mark = hannuvel_i32(answered("next_mark", answer));
-        int more = hannuvel_extra(answer) == 0 && mark <= duration;
+        int more = hannuvel_extra(answer) == 0 && mark <= line->duration;
         if (more && mark == last + 1 && last >= 0) {
             last = mark;
             continue;
@@ -130,6 +151,40 @@ static void print_marks(const uint32_t *table, size_t words, int32_t duration) {
         first = last = mark;
     }
     printf(last < 0 ? " no instant\n" : " ms\n");
+}
+
+static const uint32_t *syllable(const struct line *line, uint32_t place) {
+    return line->spans + HANNUVEL_SPAN_WORDS * place;
+}
+
+/* Prints the syllables that the \k, \kf and \ko time. */
+static void print_karaoke(const struct line *line) {
+    static const char *const NAMES[] = {"fill", "sweep", "outline"};
+    for (uint32_t place = 0; place < line->syllables; place++) {
+        const uint32_t *span = syllable(line, place);
+        printf("syllable %u: %u to %u ms, %s\n", place, span[HANNUVEL_SPAN_START_MS], span[HANNUVEL_SPAN_END_MS],
+               NAMES[span[HANNUVEL_SPAN_KIND]]);
+    }
+}
+
+/* Prints how far an instant is through the syllable that is sung. */
+static void print_progress(const struct line *line, int32_t t) {
+    for (uint32_t place = 0; place < line->syllables; place++) {
+        const uint32_t *span = syllable(line, place);
+        uint64_t answer = hannuvel_progress(span[HANNUVEL_SPAN_START_MS], span[HANNUVEL_SPAN_END_MS], t);
+        float through = hannuvel_f32(answered("progress", answer));
+        if (0 < through && through < 1) printf("  through syllable %u %.9g\n", place, through);
+    }
+}
+
+/* Prints the name of the style in force. */
+static void print_style(const struct line *line, int32_t t) {
+    const uint8_t *block = (const uint8_t *)line->text, *own = (const uint8_t *)line->style;
+    uint64_t answer = hannuvel_style_in_force(line->table, line->words, t, line->duration, block, strlen(line->text),
+                                              own, strlen(line->style));
+    answered("style_in_force", answer);
+    const char *names = hannuvel_extra(answer) == 1 ? line->text : line->style;
+    printf("  style \"%.*s\"\n", (int)hannuvel_style_length(answer), names + hannuvel_style_offset(answer));
 }
 
 /* Prints the commands of a clip's drawing. */
@@ -149,45 +204,46 @@ static void print_clip(const char *argument, uint32_t bytes) {
 }
 
 /* Prints the fields of the state at an instant that differ from those of a line without tags. */
-static void print_state(const char *text, const uint32_t *table, size_t words, int32_t t, int32_t duration) {
+static void print_state(const struct line *line, int32_t t) {
     uint32_t none[HANNUVEL_STATE_WORDS], state[HANNUVEL_STATE_WORDS];
-    answered("evaluate_at", hannuvel_evaluate_at(table, 0, t, duration, none));
-    answered("evaluate_at", hannuvel_evaluate_at(table, words, t, duration, state));
+    answered("evaluate_at", hannuvel_evaluate_at(line->table, 0, t, line->duration, none));
+    answered("evaluate_at", hannuvel_evaluate_at(line->table, line->words, t, line->duration, state));
     printf("at %d ms\n", t);
     for (size_t i = 0; i < COUNT(PLAIN); i++) {
         const uint32_t *field = state + PLAIN[i].word;
         if (memcmp(field, none + PLAIN[i].word, strlen(PLAIN[i].field.words) * sizeof *field) == 0) continue;
         printf("  ");
-        print_words(text, PLAIN[i].field, field);
+        print_words(line->text, PLAIN[i].field, field);
     }
     for (size_t i = 0; i < COUNT(FLAGGED); i++) {
         const uint32_t *field = state + FLAGGED[i].word;
         if (*field == 0) continue;
         printf("  ");
-        print_words(text, FLAGGED[i].field, field + 1);
+        print_words(line->text, FLAGGED[i].field, field + 1);
     }
     if (state[HANNUVEL_STATE_CLIP_DRAWING] == 1) {
         printf("  the clip's path\n");
-        print_clip(text + state[HANNUVEL_STATE_CLIP_DRAWING_OFFSET], state[HANNUVEL_STATE_CLIP_DRAWING_LENGTH]);
+        print_clip(line->text + state[HANNUVEL_STATE_CLIP_DRAWING_OFFSET], state[HANNUVEL_STATE_CLIP_DRAWING_LENGTH]);
     }
 }
 
 int main(int count, char **arguments) {
-    if (count < 3) {
-        fprintf(stderr, "usage: block TEXT DURATION [INSTANT..]\n");
+    if (count < 4) {
+        fprintf(stderr, "usage: block TEXT STYLE DURATION [INSTANT..]\n");
         return 2;
     }
-    const char *text = arguments[1];
-    int32_t duration = (int32_t)strtol(arguments[2], NULL, 10);
-    uint32_t table[PLACES * HANNUVEL_RECORD_WORDS];
-    uint64_t answer = hannuvel_parse_raw_block((const uint8_t *)text, strlen(text), table, COUNT(table));
-    uint32_t records = answered("parse_raw_block", answer);
-    size_t words = (size_t)records * HANNUVEL_RECORD_WORDS;
-    printf("%s\n%u of %d records\n", text, records, PLACES);
-    print_tags(text, table, records, 1);
-    print_marks(table, words, duration);
-    for (int i = 3; i < count; i++) {
-        print_state(text, table, words, (int32_t)strtol(arguments[i], NULL, 10), duration);
+    struct line line = {.text = arguments[1], .style = arguments[2], .duration = (int32_t)atol(arguments[3])};
+    read_line(&line);
+    uint32_t records = (uint32_t)line.words / HANNUVEL_RECORD_WORDS;
+    printf("%s\n%u of %d records\n", line.text, records, PLACES);
+    print_tags(line.text, line.table, records, 1);
+    print_marks(&line);
+    print_karaoke(&line);
+    for (int i = 4; i < count; i++) {
+        int32_t t = (int32_t)atol(arguments[i]);
+        print_state(&line, t);
+        print_style(&line, t);
+        print_progress(&line, t);
     }
     return 0;
 }
