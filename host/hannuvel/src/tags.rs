@@ -48,6 +48,16 @@ pub fn parse_raw_block<'t>(
 
 /// Tags in their order, a view on the text and on the records that a reading wrote: those of a block, or those inside
 /// a \t. Its records are well formed and every part that they name lies in the text.
+///
+/// The table cannot be written to while they are in use:
+///
+/// ```compile_fail,E0499
+/// let mut table = [0; 80];
+/// let first = hannuvel::parse_overrides(r"\b1", &mut table)?;
+/// let second = hannuvel::parse_overrides(r"\i1", &mut table)?;
+/// assert_ne!(first, second);
+/// # Ok::<(), hannuvel::Refusal>(())
+/// ```
 #[derive(Clone, Copy, Default)]
 pub struct Tags<'t> {
     pub(crate) text: &'t str,
