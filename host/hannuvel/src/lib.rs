@@ -1,7 +1,7 @@
 //! Reads the override tags of Sub Station Alpha subtitles and works out what a line looks like at any millisecond.
 //!
-//! Every answer comes from the proved library behind `include/hannuvel.h`; this crate lends it memory, checks nothing
-//! and works out nothing a second time, and shows the words it wrote as types named after the Rust of oxideav-ass.
+//! Every answer comes from the proved library behind `include/hannuvel.h`; this crate lends it memory, works out
+//! nothing a second time, and shows the words that it wrote as types named after the Rust of oxideav-ass.
 //! It allocates nothing: a table stands where the caller puts it, on the stack as a [`Table`] or anywhere as words.
 //!
 //! ```

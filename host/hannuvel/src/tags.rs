@@ -289,7 +289,7 @@ fn parts(record: &[u32; RECORD_WORDS]) -> [[u32; 2]; 2] {
     }
 }
 
-/// Tags are alike if they stand for the same, whatever table they are in.
+/// Tags are alike if they say the same and name the same parts, whatever table they are in.
 impl PartialEq for Tags<'_> {
     fn eq(&self, other: &Self) -> bool {
         let values = |tags: &Self| tags.iter().map(|tag| tag.value());

@@ -142,6 +142,24 @@ fn what_is_inside_stands_for_itself() {
     assert_eq!(state.font_name.unwrap(), "Top");
 }
 
+#[test]
+fn texts_and_tables_of_any_sort_are_lent() {
+    fn places(text: &(impl AsRef<[u8]> + ?Sized), table: &mut (impl AsMut<[u32]> + ?Sized)) -> usize {
+        parse_overrides(text, table).unwrap().places()
+    }
+    let text = r"\b1\i1";
+    let mut words = vec![0; 40];
+    let (first, second): (&mut [u32], &mut [u32]) = words.split_at_mut(20);
+    assert_eq!(places(text, first), 2);
+    assert_eq!(places(text.as_bytes(), second), 2);
+    assert_eq!(first[..16], second[..16]);
+    assert_eq!(places(&text.to_owned(), &mut words), 2);
+    assert_eq!(places(&text.as_bytes().to_vec(), &mut [0; 16]), 2);
+    assert_eq!(places(br"\b1\i1", &mut Table::<2>::new()), 2);
+    assert_eq!(places("", &mut Table::<0>::new()), 0);
+    assert_eq!(places("", &mut [] as &mut [u32]), 0);
+}
+
 /// Every field of a state, each set by its own tag.
 #[test]
 fn every_field_of_a_state() {
