@@ -2,8 +2,8 @@ use Prim.Native.Nat.{_-_, _*_, _/_, _^_, _≤_}
 use native.Mathlib.Omega.{arith}
 use borrow.Author.Needs.{needs}
 use Rattle.root.proofs.Law.{parts}
-use Rattle.root.proofs.parabola.Statement.{statement}
-use Rattle.root.proofs.parabola.Tie as tie
+use Rattle.root.proofs.value.Statement.{statement}
+use Rattle.root.proofs.value.Tie as tie
 
 small : (c : tie.Start) → (c .args .d * (131071 - c .args .d) ≤ 2 ^ 34) × (c .args .c * (c .args .d * (131071 - c .args .d) / 65536) ≤ 2 ^ 50) × (c .args .b * c .args .d ≤ 2 ^ 49)
 small c = parts (c .args .b) (c .args .c) (c .args .d) (omega arith) (omega arith) (c .pre)
@@ -35,8 +35,8 @@ cast-result c = record { fits = omega (arith, small c .1, small c .2) }
 returns : tie.Need-returns
 returns c = search needs
 
-pub parabola-spec : {M : Type 1} → statement M
-parabola-spec =
+pub value-spec : {M : Type 1} → statement M
+value-spec =
     tie.close
     (tie.spec
     sub-e
