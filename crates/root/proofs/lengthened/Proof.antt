@@ -1,8 +1,8 @@
-use mathlib.Core.Path.{_≡_, refl}
+use mathlib.Core.Path.{_≡_, refl, _∙_}
 use Prim.Native.Nat.{_+_, _*_, _^_, _<_, _≤_}
 use native.Mathlib.Omega.{arith}
 use Rattle.decimal.proofs.Law.{double}
-use Rattle.root.proofs.Law.{room}
+use Rattle.root.proofs.Law.{room, wide-of}
 use Rattle.root.proofs.lengthened.Statement.{statement}
 use Rattle.root.proofs.lengthened.Tie as tie
 
@@ -32,9 +32,20 @@ loop-again c =
     let l = c .before in
     (double (l .loop .m) (l .loop .t) _ (omega (arith, long l)) (l .loop .inv .0), l .loop .inv .1, omega arith, omega arith)
 
+sub-result : tie.Need-sub-result Inv-loop μ-loop
+sub-result c = omega (arith, long (c .before))
+
+mul-result : tie.Need-mul-result Inv-loop μ-loop
+mul-result c = omega (arith, long (c .before))
+
+add-result : tie.Need-add-result Inv-loop μ-loop
+add-result c = omega (arith, long (c .before))
+
 returns : tie.Need-returns Inv-loop μ-loop
-returns c = let l = c .before in (l .loop .inv .0, omega arith, omega arith, omega (arith, long l), omega arith)
+returns c =
+    let l = c .before in
+    (wide-of _ (l .loop .m) (l .loop .t) (c .loop-test .left) (l .loop .inv .2) (omega (arith, long l)) refl ∙ l .loop .inv .0, omega (arith, long l))
 
 pub lengthened-spec : {M : Type 1} → statement M
 lengthened-spec =
-    tie.close (tie.spec Inv-loop μ-loop loop-holds mul-m sub-t loop-less loop-again returns)
+    tie.close (tie.spec Inv-loop μ-loop loop-holds mul-m sub-t loop-less loop-again sub-result mul-result add-result returns)
