@@ -17,7 +17,7 @@ abbrev μ-loop : tie.MeasureT-loop
 μ-loop x v whole p₀ r₀ d₀ p r d = d
 
 left : (c : tie.In-loop Inv-loop μ-loop) → 1 ≤ c .before .loop .d
-left c = some-digits (c .before .loop .d) _ (c .loop-test .taken)
+left c = some-digits (c .before .loop .d) (c .before .before .args .v) (omega (arith, c .loop-test .taken))
 
 -- one turn of the loop, with q for p where it ends
 turn : (c : tie.After-sqrt-f32 Inv-loop μ-loop) (q : Float)

@@ -1,4 +1,4 @@
-use Prim.Native.Nat.{_+_, _-_, _*_, _^_, _<_, _≤_}
+use Prim.Native.Nat.{_-_, _^_, _<_, _≤_}
 use native.Mathlib.Omega.{arith}
 use Rattle.root.proofs.Law.{square-mono, not-zero}
 use Rattle.root.proofs.lowered.Statement.{statement}
