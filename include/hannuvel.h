@@ -33,7 +33,7 @@ extern "C" {
 #define HANNUVEL_STATE_WORDS 92    /* words of a state */
 
 /* The grounds for turning a call down, in checking order. The two reading calls have 1 to 4 and 9, evaluation and the
- * next mark 5 and 6, a drawing 1, 2, 3, 7 and 9, a clip argument 1 and 2.
+ * next mark 5 and 6, a drawing 1, 2, 3, 7 and 9, a clip argument 1 and 2, the style in force 1, 2, 5, 6 and 8.
  *
  * A table is malformed (5) if it has more than 1,024 records, or words behind the last whole one, or a word out
  * of the range of its field, or a \t that claims more records than follow in what encloses it, or nine \t one
@@ -174,6 +174,14 @@ uint64_t hannuvel_parse_drawing(const uint8_t *text, size_t bytes, uint32_t expo
 /* Splits the argument of a \clip. The value of an answer is the scale, at least 1, and its extra the offset at
  * which the rest of the argument begins; it goes on to the end of the text. */
 uint64_t hannuvel_split_clip_arg(const uint8_t *text, size_t bytes);
+
+/* The style in force at the instant t: the name that the last \r gave, a part of the block that was read; or, without
+ * one, `own`, the line's own style name, whole. The extra of an answer is 1 for a part of the block and 0 for the own
+ * name; the upper 16 bits of its value are the offset at which the name begins in that text, the lower 16 its length.
+ * Grounds 1 and 2 look at the block, then at the own name, whose places count in itself: 1 of either comes before 2.
+ * A name that ends beyond the block given is ground 8. */
+uint64_t hannuvel_style_in_force(const uint32_t *table, size_t words, int32_t t, int32_t duration, const uint8_t *block,
+                                 size_t block_bytes, const uint8_t *own, size_t own_bytes);
 
 /* What a call returns is one number:
  *
