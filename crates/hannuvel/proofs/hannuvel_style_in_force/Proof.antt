@@ -19,7 +19,7 @@ returns-2 : tie.Need-returns-2
 returns-2 c =
     let s = c .before .before .before .before .before .before .before .before .before .before .before in
     let k = rw (toZ-ofZ w32 (s .args .t) (s .fits .t), toZ-ofZ w32 (s .args .duration) (s .fits .duration)) at (c .before .before .before .before .evaluate-at .ensures) in
-    record { answered = rw (sym (c .before .before .before .before .before .before .before .check-texts .ensures) ∙ c .before .before .before .before .before .enum-told .given .1, sym k ∙ c .before .before .g2 .given .1) (c .packed-refusal2 .ensures) }
+    record { answered = rw (sym (c .before .before .before .before .before .before .before .check-texts .ensures) ∙ c .before .before .before .before .before .enum-told .given .1, sym k ∙ c .before .before .r .given .1) (c .packed-refusal2 .ensures) }
 
 returns-3 : tie.Need-returns-3
 returns-3 c =
