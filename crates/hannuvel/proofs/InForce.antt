@@ -1,7 +1,7 @@
 -- Of what `hannuvel_style_in_force` returns, the functions of include/hannuvel.h give back the ground, the extra and the value, and the value has the
 -- part's offset and length.
-use mathlib.Core.Path.{_≡_, refl}
-use mathlib.Core.Bool.{Bool, true, false}
+use mathlib.Core.Path.{_≡_}
+use mathlib.Core.Bool.{Bool}
 use mathlib.Core.List.{List}
 use Prim.Native.Nat.{ℕ, _+_, _-_, _*_, _/_, _%_, _^_, _≤_, _<_}
 use native.Mathlib.Omega.{arith}
@@ -23,7 +23,7 @@ use Rattle.style.specs.Style.{textsGround, unless, resetTo}
 use Rattle.style.specs.declared.Place.{Place}
 use Rattle.style.proofs.Places.{Short, texts-short, Fits, named-fits}
 use Rattle.hannuvel.specs.Packed.{packed, valueOf, Unpacks}
-use Rattle.hannuvel.specs.InForce.{styleOf, styleAt, styleExtra, styleValue, styleWord, StyleCall}
+use Rattle.hannuvel.specs.InForce.{styleOf, styleAt, styleExtra, styleValue, StyleCall}
 use Rattle.hannuvel.proofs.Unpacked.{unpacked, plain, Low, call-low}
 
 -- an offset and a length in one word
