@@ -1,13 +1,13 @@
 -- Spans written one behind the other.
 use mathlib.Core.Path.{_≡_, refl, sym, ap, subst, _∙_}
 use mathlib.Core.Bool.{Bool, true, false}
-use mathlib.Core.List.{List, [], _∷_, _++_}
+use mathlib.Core.List.{List, [], _∷_, _++_, append-assoc}
 use Prim.Native.Nat.{ℕ, suc, _+_, _-_, _*_, _/_, _≤_, _<_, min}
 use native.Mathlib.Omega.{arith}
 use native.Mathlib.Nat.{div-add-mod'}
 use lib.Dec.{leb}
-use lib.ListN.{length, take, drop, length-drop}
-use lib.Seq.{sets, take-length, take-add, drop-drop, length-take-le}
+use lib.ListN.{length, getD, take, drop, set, length-append, length-drop}
+use lib.Seq.{sets, set-at, take-length, take-add, drop-cons, drop-drop, length-take-le}
 use borrow.Author.Tests.{leb-true, le-leb, lt-leb}
 use Rattle.scan.specs.Scan.{pick}
 use Rattle.rows.specs.Rows.{laidRows}
@@ -26,7 +26,7 @@ use Rattle.karaoke.specs.declared.Ms.{Ms}
 use Rattle.karaoke.specs.declared.KaraokeSpan.{KaraokeSpan}
 use Rattle.karaoke.specs.declared.Walk.{Walk}
 use Rattle.karaoke.specs.Karaoke.{inMs, plus, Syllable, spansFrom}
-use Rattle.karaoke.specs.Answer.{spansOf, answer, written, after, spanWidth, spanWords, placesOf, laidSpans, wordsAfter, AnsweredWords}
+use Rattle.karaoke.specs.Answer.{spansOf, answer, written, listAfter, after, spanWidth, spanWords, placesOf, laidSpans, wordsAfter, AnsweredWords}
 use Rattle.karaoke.specs.Inner.{beatsFrom, begun, spansLeft, writtenIn}
 use Rattle.karaoke.proofs.Flat.{flat}
 
@@ -136,6 +136,15 @@ module _ (ws : List ℕ) where
           ∙ ap (λ (x : List ℕ). take k x ++ laidSpans (drop k x) (v .span ∷ [])) d
           ∙ sym (ap (laidSpans t) fill-next ∙ rows.laid-append spanWidth spanWords wide (take i allSpans) (v .span ∷ []) t k m)
 
+      -- the list then
+      pub list-turn : (l m : List KaraokeSpan) → n ≤ length l → m ≡ written (take i allSpans) l → set m i (v .span) ≡ written (take (i + 1) allSpans) l
+      list-turn l m g d =
+          let a = take i allSpans in
+          let z : length a ≡ i = length-take-le i allSpans (omega (arith, f .enough)) in
+          let y : length (a ++ (v .span ∷ [])) ≡ suc i = simp length-append (omega arith) in
+          let c : drop i l ≡ getD l i (v .span) ∷ drop (suc i) l = drop-cons l i (v .span) (omega arith) in
+          rw (d, z, c, fill-next, y) (set-at a (getD l i (v .span)) (drop (suc i) l) (v .span) i z ∙ sym (append-assoc a (v .span ∷ []) (drop (suc i) l)))
+
   -- ---- before the first and behind the last
 
   module _ {places : ℕ} where
@@ -151,3 +160,11 @@ module _ (ws : List ℕ) where
       go : (a : Answer) → Outcome (placesOf t) a → laidSpans t (take (writtenIn a) allSpans) ≡ tableAfter a (laidSpans t (spansOf ws)) t
       go (Written n) (fine o q h) = rw (o, q) (ap (laidSpans t) (take-length allSpans))
       go (Refused r) off = rows.laid-nil spanWidth spanWords t
+
+  pub list-done : (l : List KaraokeSpan) (a : Answer) → a ≡ answer ws (length l) → written (take (writtenIn a) allSpans) l ≡ after ws l
+  unfolding after
+  list-done l a e = rw (sym e) (go a (outcome (length l) e))
+    where
+      go : (a : Answer) → Outcome (length l) a → written (take (writtenIn a) allSpans) l ≡ listAfter a (spansOf ws) l
+      go (Written n) (fine o q h) = rw (o, q, take-length allSpans)
+      go (Refused r) off = refl

@@ -6,7 +6,7 @@ ghost use lib.ListN.{length};
 ghost use Rattle.tag.specs.Decode.{beatOf};
 ghost use Rattle.tag.specs.Table.{kindWord};
 ghost use Rattle.karaoke.specs.Karaoke.{inMs, plus as plusMs};
-ghost use Rattle.karaoke.specs.Answer.{answer as answerOf, laidSpans, AnsweredWords};
+ghost use Rattle.karaoke.specs.Answer.{answer as answerOf, laidSpans, Answered, AnsweredWords};
 ghost use Rattle.karaoke.specs.Progress.{progressIn, progressed, whole};
 ghost use Rattle.karaoke.specs.Inner.{beatsFrom, Found, begun, spansLeft, writtenIn};
 use refusal::Answer;
@@ -209,6 +209,22 @@ pub fn write_spans(table: &[u32], words: &mut [u32]) -> Answer
     while i < n {
         walk = next_span(table, walk);
         put_span(&mut words[3 * i..], walk.span);
+        i += 1;
+    }
+    answer
+}
+
+// 01, Karaoke: the spans of the tags that the table stands for, into the lent list.
+pub fn karaoke_spans(table: &[u32], list: &mut [KaraokeSpan]) -> Answer
+    ensures { λ r. ⌜ Answered (now (table .entry)) (now (list .entry)) r (now (list .exit)) ⌝ }
+{
+    let answer = check_spans(table, list.len());
+    let n = written_in(answer);
+    let mut walk = begin();
+    let mut i = 0;
+    while i < n {
+        walk = next_span(table, walk);
+        list[i] = walk.span;
         i += 1;
     }
     answer
