@@ -1,2 +1,3 @@
 pub mod Unpacked
 pub mod Instant
+pub mod Spans

@@ -4,10 +4,11 @@ use mathlib.Core.List.{List, [], _∷_}
 use mathlib.Core.Logic.{⊎-elim}
 use Prim.Native.Nat.{ℕ, zero, suc, _+_, _≤_, _<_}
 use native.Mathlib.Omega.{arith}
+use lib.Dec.{eqb}
 use lib.ListN.{length, drop, drop-of-length-le}
 use lib.Seq.{drop-drop}
 use borrow.Author.Tests.{eq-eqb, ne-eqb}
-use Rattle.scan.proofs.Laws.{le-or-lt}
+use Rattle.scan.proofs.Laws.{le-or-lt, picked}
 use Rattle.tag.specs.declared.Record.{Record}
 use Rattle.tag.specs.Tag.{cs}
 use Rattle.tag.specs.Table.{placesOf}
@@ -40,6 +41,18 @@ beats-karaoke r l h = rw (ne-eqb (r .kind) tKind (λ g. omega arith), eq-eqb (r 
 pub beats-other : (r : Record) (l : List Record) → (r .kind ≡ tKind → ⊥) → (r .kind ≡ karaokeKind → ⊥) → beats 0 (r ∷ l) ≡ beats 0 l
 unfolding beats
 beats-other r l g h = rw (ne-eqb (r .kind) tKind g, ne-eqb (r .kind) karaokeKind h)
+
+-- no more than records
+pub beats-few : (k : ℕ) (l : List Record) → length (beats k l) ≤ length l
+unfolding beats
+beats-few k [] = omega arith
+beats-few (suc k) (r ∷ l) = let h = beats-few k l in omega arith
+beats-few zero (r ∷ l) =
+    picked Short (eqb (r .kind) tKind) _ _ (let h = beats-few (holds r) l in omega arith)
+    (picked Short (eqb (r .kind) karaokeKind) _ _ (let h = beats-few zero l in omega arith) (let h = beats-few zero l in omega arith))
+  where
+    Short : List Syllable → Type 0
+    Short b = length b ≤ length (r ∷ l)
 
 -- ---- in a table
 

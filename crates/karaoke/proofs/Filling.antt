@@ -21,13 +21,15 @@ use Rattle.refusal.specs.declared.Checked.the-variants.{Good, Bad}
 use Rattle.refusal.specs.declared.Answer.{Answer}
 use Rattle.refusal.specs.declared.Answer.the-variants.{Written, Refused}
 use Rattle.refusal.specs.Answer.{roomFor, unlessBad, tableAfter}
-use Rattle.tag.specs.WellFormed.{tableGround}
+use Rattle.tag.specs.WellFormed.{recordsOf, tableGround}
+use Rattle.tag.proofs.Formed.{ground-formed}
 use Rattle.karaoke.specs.declared.Ms.{Ms}
 use Rattle.karaoke.specs.declared.KaraokeSpan.{KaraokeSpan}
 use Rattle.karaoke.specs.declared.Walk.{Walk}
 use Rattle.karaoke.specs.Karaoke.{inMs, plus, Syllable, spansFrom}
 use Rattle.karaoke.specs.Answer.{spansOf, answer, written, listAfter, after, spanWidth, spanWords, placesOf, laidSpans, wordsAfter, AnsweredWords}
 use Rattle.karaoke.specs.Inner.{beatsFrom, begun, spansLeft, writtenIn}
+use Rattle.karaoke.proofs.Beats.{beats-few}
 use Rattle.karaoke.proofs.Flat.{flat}
 
 -- ---- three words a span
@@ -59,6 +61,11 @@ module _ (ws : List ℕ) where
   length-all : length allSpans ≡ length (beatsFrom ws 0)
   unfolding spansLeft
   length-all = length-spans _ (beatsFrom ws 0)
+
+  -- where no ground stands against the table, there are at most 1,024
+  pub few-spans : tableGround ws ≡ Good → length (spansOf ws) ≤ mostPlaces
+  unfolding beatsFrom
+  few-spans g = let e : length (spansOf ws) ≡ length (beatsFrom ws 0) = ap length (flat ws g) ∙ length-all in omega (arith, beats-few 0 (recordsOf ws), ground-formed ws g .few)
 
   module _ (places : ℕ) where
     -- what an answer says: nothing stands against the call, or it is refused

@@ -6,14 +6,15 @@ use Prim.Native.Nat.{ℕ, _-_, _*_, _≤_, _<_}
 use native.Mathlib.Nat.{mul-pos, le-of-lt, zero-lt-suc}
 use native.Mathlib.Omega.{arith}
 use lib.Dec.{T, leb, ltb→lt, lit≤}
-use lib.IntN.{ℤ, pos, negsuc}
+use lib.IntN.{ℤ, pos, negsuc, _-ℤ_}
 use lib.Signed.{leZ}
-use lib.Ieee.{Float, nan, inf, fin, binary32, round, div, le, ofInt}
+use lib.Ieee.{Float, nan, inf, fin, binary32, fits, round, div, le, ofInt}
+use lib.Ieee.Fits.{div-fits}
 use lib.Ieee.Order.{round-mono}
 use lib.Ieee.Positive.{num, den, positive, den-pos, own-value, value-pos, le→cross, between}
 use borrow.Author.Tests.{le-leb, lt-leb, ne-eqb}
-use Rattle.scan.specs.Scan.{pick}
-use Rattle.scan.proofs.Laws.{le-or-lt}
+use Rattle.scan.specs.Scan.{pick, either}
+use Rattle.scan.proofs.Laws.{le-or-lt, picked}
 use Rattle.float.specs.Float.{zero, one}
 use Rattle.refusal.specs.declared.Refusal.the-variants.{TimeOutOfRange}
 use Rattle.table.specs.Ground.{inTime}
@@ -126,3 +127,21 @@ in-unit s t m = go (inTime t)
     go : (b : Bool) → InUnit (progressOf (pick b (Progressed.At (progressIn (whole (s .«start_ms»)) (whole (s .«end_ms»)) t)) (Progressed.Refused TimeOutOfRange)))
     go true = unit-in (s .«start_ms» .0) (s .«end_ms» .0) m t
     go false = unit-zero
+
+-- ---- and an f32
+
+pub progress-fits : (s : KaraokeSpan) (t : ℤ) → T (fits binary32 (progressOf (progressed s t)))
+unfolding progressed progressIn quotient fits
+progress-fits s t =
+    picked Fitting (inTime t) (Progressed.At (progressIn start end t)) (Progressed.Refused TimeOutOfRange)
+    (picked (λ x. T (fits binary32 x)) (leZ t start) zero _ tt (picked (λ x. T (fits binary32 x)) (either (leZ end t) (leZ end start)) one _ tt (div-fits binary32 (ofInt binary32 (t -ℤ start)) (ofInt binary32 (end -ℤ start)))))
+    tt
+  where
+    start : ℤ
+    start = whole (s .«start_ms»)
+
+    end : ℤ
+    end = whole (s .«end_ms»)
+
+    Fitting : Progressed → Type 0
+    Fitting p = T (fits binary32 (progressOf p))
