@@ -139,7 +139,7 @@ abbrev pub Low : Checked → Type 0
 Low Good = Unit
 Low (Bad r) = placeOf r ≤ mostPlaces
 
-table-low : (ws : List ℕ) (c : Checked) → tableGround ws ≡ c → Low c
+pub table-low : (ws : List ℕ) (c : Checked) → tableGround ws ≡ c → Low c
 table-low ws Good e = tt
 table-low ws (Bad r) e = named-place ws (ground-first ws r e)
 

@@ -8,6 +8,7 @@ ghost use Rattle.hannuvel.specs.Instant.{EvaluatingCall, MarkingCall, ma
 ghost use Prim.Native.Nat.{_≤_};
 ghost use Rattle.scan.specs.Scan.{pick};
 ghost use Rattle.hannuvel.specs.InForce.{styleWord, StyleCall};
+ghost use Rattle.hannuvel.specs.Karaoke.{SpansCall, spanFrom, progressWord, ProgressCall};
 
 fn packed_refusal(r: refusal::Refusal) -> u64
     ensures { λ w. ⌜ w ≡ refusalWord r ⌝ }
@@ -105,6 +106,41 @@ pub extern "C" fn hannuvel_next_mark(table: &[u32], t: i32, duration: i32) -> u6
     ensures { λ r. ⌜ MarkingCall (now (table .entry)) t duration r ⌝ }
 {
     packed_marked(marks::next_mark(table, t, duration))
+}
+
+// The karaoke spans of the tags that a table stands for, three words a span: kind, start, end. The value is the number of spans written.
+#[no_mangle]
+pub extern "C" fn hannuvel_karaoke_spans(table: &[u32], spans: &mut [u32]) -> u64
+    ensures { λ r. ⌜ SpansCall (now (table .entry)) (now (spans .entry)) r (now (spans .exit)) ⌝ }
+{
+    packed_answer(karaoke::write_spans(table, spans))
+}
+
+fn span_from(start: u32, end: u32) -> karaoke::KaraokeSpan
+    ensures { λ s. ⌜ s ≡ spanFrom start end ⌝ }
+{
+    karaoke::KaraokeSpan {
+        kind: tag::KaraokeKind::Fill,
+        start_ms: karaoke::Ms(start),
+        end_ms: karaoke::Ms(end),
+    }
+}
+
+fn packed_progress(p: karaoke::Progressed) -> u64
+    ensures { λ w. ⌜ w ≡ progressWord p ⌝ }
+{
+    match p {
+        karaoke::Progressed::Refused(g) => packed_refusal(g),
+        karaoke::Progressed::At(x) => float::word_of_f32(x) as u64,
+    }
+}
+
+// How far the instant t is in a span from start to end. The value is the f32's bits.
+#[no_mangle]
+pub extern "C" fn hannuvel_progress(start: u32, end: u32, t: i32) -> u64
+    ensures { λ r. ⌜ ProgressCall start end t r ⌝ }
+{
+    packed_progress(karaoke::progress(span_from(start, end), t))
 }
 
 fn one_if(b: bool) -> u64
