@@ -6,7 +6,7 @@ use Prim.Native.String.{String}
 use lib.IntN.{pos}
 use lib.ListN.{length}
 use lib.Ieee.{Float, binary32, round, toBits, ofBits, ofInt, toSigned, add, mul, div, sum}
-use Rattle.scan.specs.Scan.{bytes, span, back, skip, skipBack, blankAt, blankBefore, closing}
+use Rattle.scan.specs.Scan.{bytes, span as spanOf, back, skip, skipBack, blankAt, blankBefore, closing}
 use Rattle.float.specs.Float.{maxZero, roundAway, roundByte}
 use Rattle.numeral.specs.Numeral.{value, wholeNumber, i32Of, hexAt, splitAt, exponentAt, floatOf, f32Of}
 use Rattle.colour.specs.Colour.{trimmed, ampersands, zeroXAt, digits, alphaAt, colourAt}
@@ -24,6 +24,10 @@ use Rattle.state.specs.declared.OptRgb.{OptRgb}
 use Rattle.state.specs.Apply.{applyOwn, applyTags, evaluateAt}
 use Rattle.marks.specs.declared.Mark.{Mark}
 use Rattle.marks.specs.Marks.{Interval, single, marks, nextMark}
+use Rattle.tag.specs.declared.KaraokeKind.{KaraokeKind}
+use Rattle.tag.specs.declared.KaraokeKind.the-variants.{Fill, Sweep}
+use Rattle.karaoke.specs.declared.KaraokeSpan.{KaraokeSpan}
+use Rattle.karaoke.specs.Karaoke.{ms, karaokeSpans}
 use Rattle.tokens.specs.Tokens.{spells, special, tokenOf, wordEnd, tokens, untilLetter}
 use Rattle.drawing.specs.declared.path.PathCommand.{PathCommand}
 use Rattle.drawing.specs.Path.{pathCommand}
@@ -46,6 +50,10 @@ bits n = toBits binary32 (whole n)
 abbrev pub half : Float
 half = ofBits binary32 0x3F000000
 
+-- a span, from one millisecond to another
+abbrev pub span : KaraokeKind → ℕ → ℕ → KaraokeSpan
+span k a b = record { kind = k; «start_ms» = ms a; «end_ms» = ms b }
+
 -- a drawing's commands
 abbrev pub moveTo : ℕ → ℕ → PathCommand
 moveTo x y = pathCommand 1 (bits x) (bits y) 0 0 0 0 0
@@ -67,6 +75,8 @@ pub data Row : Type 0 where
   -- all its marks; the mark after instants
   marked : String → ℕ → List Interval → Row
   after : String → ℕ → List (ℕ × Mark) → Row
+  -- its karaoke spans
+  sung : String → List KaraokeSpan → Row
   -- the primary colour
   coloured : String → ℕ → ℕ → ℕ → Row
   -- a drawing's commands, at a scale exponent
@@ -79,6 +89,7 @@ Holds (sizes text dur at) = map (λ (p : ℕ × Float). evaluateAt (pos (p .0)) 
 Holds (opacities text dur at) = map (λ (p : ℕ × Float). evaluateAt (pos (p .0)) (pos dur) (tagsIn text) .always .«alpha_mul») at ≡ map (λ (p : ℕ × Float). p .1) at
 Holds (marked text dur is) = marks (pos dur) (tagsIn text) ≡ is
 Holds (after text dur at) = map (λ (p : ℕ × Mark). nextMark (pos (p .0)) (pos dur) (tagsIn text)) at ≡ map (λ (p : ℕ × Mark). p .1) at
+Holds (sung text spans) = karaokeSpans (tagsIn text) ≡ spans
 Holds (coloured text r g b) = evaluateAt (pos 0) (pos 0) (tagsIn text) .colors .«primary_color» ≡ OptRgb.Some (record { red = r; green = g; blue = b })
 Holds (drawn text exponent cs) = drawing (bytes text) exponent ≡ cs
 
@@ -98,6 +109,9 @@ rows =
     -- `\fad(200,300)`, duration 1000: 0 at 0, 0.5 at 100, 1 at 700, 0.5 at 850, 0 at 1000; mark after 200 is 701, after 1000 none
     opacities "\\fad(200,300)" 1000 ((0, whole 0) ∷ (100, half) ∷ (700, whole 1) ∷ (850, half) ∷ (1000, whole 0) ∷ []) ∷
     after "\\fad(200,300)" 1000 ((200, Mark.At (pos 701)) ∷ (1000, Mark.None) ∷ []) ∷
+    -- `\k50\kf25`: Fill 0–500, Sweep 500–750; `\t(\k10)`: no span
+    sung "\\k50\\kf25" (span Fill 0 500 ∷ span Sweep 500 750 ∷ []) ∷
+    sung "\\t(\\k10)" [] ∷
     -- `\1c&H0000FF&`: red 255, green 0, blue 0
     coloured "\\1c&H0000FF&" 255 0 0 ∷
     -- `\t(` eight times then `\b1`: nine records; nine times: eight
@@ -109,5 +123,5 @@ rows =
 
 -- every row holds
 pub sheet : All Holds rows
-unfolding round toBits ofBits ofInt toSigned add mul div sum span back skip skipBack blankAt blankBefore closing maxZero roundAway roundByte value wholeNumber i32Of hexAt splitAt exponentAt floatOf f32Of trimmed ampersands zeroXAt digits alphaAt colourAt split append records encode count names lookup lowered keyAt part f32s i32s allFloats floatsIn allInts intsIn unlessLong pairOf moveOf fadOf fadeOf rangedOf weightOf flagOf clipOf resetOf shaped isFn isNamedReset plainAt paramAt peel tagAt walkBlock tAt parse applyOwn applyTags evaluateAt marks nextMark spells special tokenOf wordEnd tokens untilLetter scaleOf scaled weighed commandOf letterTurn walk
-sheet = more refl (more refl (more refl (more refl (more refl (more refl (more refl (more refl (more refl (more refl (more refl (more refl all)))))))))))
+unfolding round toBits ofBits ofInt toSigned add mul div sum spanOf back skip skipBack blankAt blankBefore closing maxZero roundAway roundByte value wholeNumber i32Of hexAt splitAt exponentAt floatOf f32Of trimmed ampersands zeroXAt digits alphaAt colourAt split append records encode count names lookup lowered keyAt part f32s i32s allFloats floatsIn allInts intsIn unlessLong pairOf moveOf fadOf fadeOf rangedOf weightOf flagOf clipOf resetOf shaped isFn isNamedReset plainAt paramAt peel tagAt walkBlock tAt parse applyOwn applyTags evaluateAt marks nextMark karaokeSpans spells special tokenOf wordEnd tokens untilLetter scaleOf scaled weighed commandOf letterTurn walk
+sheet = more refl (more refl (more refl (more refl (more refl (more refl (more refl (more refl (more refl (more refl (more refl (more refl (more refl (more refl all)))))))))))))
