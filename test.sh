@@ -1,5 +1,5 @@
 #!/usr/bin/env bash
-# The tests: rt ci over every crate of crates.txt, then the comparison with the Rust.
+# The tests: rt ci over every crate of crates.txt, then the hosts in C and Rust and the comparison with the Rust.
 # Any failure ends it with a status other than 0. Its last line is rt ci's own, 'N passed, 0 failed',
 # held back until everything else has passed.
 set -euo pipefail
@@ -17,7 +17,7 @@ export CARGO_TARGET_DIR=$PWD/oracle/target
 unset HANNUVEL_ARCHIVES
 
 # Without its tools a part would go untested, so this is a failure and not a reason to pass over it.
-for tool in rt cargo rustc python3 nm; do
+for tool in rt cargo rustc python3 nm gcc; do
     command -v "$tool" >/dev/null || fail "$tool is not on PATH"
 done
 
@@ -45,6 +45,11 @@ began=$SECONDS
 rt staticlib leaves || fail "rt staticlib leaves ended with status $?"
 if listed hannuvel; then
     rt staticlib hannuvel || fail "rt staticlib hannuvel ended with status $?"
+    say "the example in C"
+    examples/c/check.sh || fail "examples/c/check.sh ended with status $?"
+    say "the crate in Rust"
+    (cd host && CARGO_TARGET_DIR=$PWD/target cargo test --offline --release -p hannuvel) ||
+        fail "cargo test of the crate in Rust ended with status $?"
 else
     say "NOT RUN: crates.txt has no hannuvel, so there is no C interface to compare"
 fi

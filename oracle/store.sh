@@ -22,4 +22,5 @@ sample evaluate 5 800
 sample marks 5 600
 sample karaoke 5 600
 sample progress 5 600
+sample styles 5 400
 mv "$work/stdin" "$work/stdout" "$list"

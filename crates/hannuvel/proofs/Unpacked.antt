@@ -147,7 +147,7 @@ first-low : (a b : Checked) → Low a → Low b → Low (first a b)
 first-low Good b h k = k
 first-low (Bad r) b h k = h
 
-call-low : (ws : List ℕ) (t dur : ℤ) → Low (callGround ws t dur)
+pub call-low : (ws : List ℕ) (t dur : ℤ) → Low (callGround ws t dur)
 unfolding callGround timeGround
 call-low ws t dur = first-low (tableGround ws) (timeGround t dur) (table-low ws (tableGround ws) refl) (picked Low (both (inTime t) (inTime dur)) Good (Bad TimeOutOfRange) tt (lit≤ tt))
 

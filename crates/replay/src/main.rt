@@ -106,6 +106,18 @@ fn progress(words: &[u32]) {
     write(hannuvel::hannuvel_progress(words[0], words[1], t), &[]);
 }
 
+// The style in force, on the number of bytes of the block, an instant, a duration and a table's words; the text is the block and then the own name.
+fn style_in_force(words: &[u32], text: &[u8]) {
+    if words.len() < 3 {
+        return write_unknown();
+    }
+    let n = stored::part(words[0], text.len());
+    let t = float::of_word(words[1]);
+    let duration = float::of_word(words[2]);
+    let r = hannuvel::hannuvel_style_in_force(&words[3..], t, duration, &text[0..n], &text[n..]);
+    write(r, &[]);
+}
+
 // Makes a call and writes its answer.
 fn answer(call: u8, leaf: u8, words: &[u32], text: &[u8], lent: &mut [u32]) {
     match call {
@@ -118,6 +130,7 @@ fn answer(call: u8, leaf: u8, words: &[u32], text: &[u8], lent: &mut [u32]) {
         b'M' => next_mark(words),
         b'K' => karaoke_spans(words, lent),
         b'G' => progress(words),
+        b'S' => style_in_force(words, text),
         _ => write_unknown(),
     }
 }
