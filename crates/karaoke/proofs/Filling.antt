@@ -2,15 +2,13 @@
 use mathlib.Core.Path.{_≡_, refl, sym, ap, subst, _∙_}
 use mathlib.Core.Bool.{Bool, true, false}
 use mathlib.Core.List.{List, [], _∷_, _++_, append-assoc}
-use Prim.Native.Nat.{ℕ, suc, _+_, _-_, _*_, _/_, _≤_, _<_, min}
+use Prim.Native.Nat.{ℕ, suc, _+_, _-_, _*_, _≤_, _<_, min}
 use native.Mathlib.Omega.{arith}
-use native.Mathlib.Nat.{div-add-mod'}
 use lib.Dec.{leb}
 use lib.ListN.{length, getD, take, drop, set, length-append, length-drop}
 use lib.Seq.{sets, set-at, take-length, take-add, drop-cons, drop-drop, length-take-le}
 use borrow.Author.Tests.{leb-true, le-leb, lt-leb}
 use Rattle.scan.specs.Scan.{pick}
-use Rattle.rows.specs.Rows.{laidRows}
 use Rattle.rows.proofs.Laws as rows
 use Rattle.rows.proofs.Laws.{rest-is, rest-back}
 use Rattle.refusal.specs.Refusal.{mostPlaces}
@@ -27,7 +25,7 @@ use Rattle.karaoke.specs.declared.Ms.{Ms}
 use Rattle.karaoke.specs.declared.KaraokeSpan.{KaraokeSpan}
 use Rattle.karaoke.specs.declared.Walk.{Walk}
 use Rattle.karaoke.specs.Karaoke.{inMs, plus, Syllable, spansFrom}
-use Rattle.karaoke.specs.Answer.{spansOf, answer, written, listAfter, after, spanWidth, spanWords, placesOf, laidSpans, wordsAfter, AnsweredWords}
+use Rattle.karaoke.specs.Answer.{spansOf, answer, written, listAfter, after, spanWidth, spanWords, placesOf, laidSpans, wordsAfter}
 use Rattle.karaoke.specs.Inner.{beatsFrom, begun, spansLeft, writtenIn}
 use Rattle.karaoke.proofs.Beats.{beats-few}
 use Rattle.karaoke.proofs.Flat.{flat}

@@ -8,16 +8,16 @@ use native.Mathlib.Omega.{arith}
 use lib.Dec.{eqb, leb}
 use lib.ListN.{length, getD, drop, replicate, getD-replicate, length-drop, List·getD-map}
 use borrow.Author.Tests.{eqb-true, eqb-false, leb-true}
-use Rattle.scan.specs.Scan.{pick, within}
+use Rattle.scan.specs.Scan.{pick}
 use Rattle.refusal.specs.declared.Checked.the-variants.{Good}
 use Rattle.tag.specs.declared.Record.{Record}
 use Rattle.tag.specs.Tag.{AnimatedTag, Tags, none, and}
 use Rattle.tag.specs.Range.{rows, inRange}
-use Rattle.tag.specs.WellFormed.{recordsOf, All, all, more, InRange, tKind, holds, tableGround}
-use Rattle.tag.specs.Decode.{decoders, nothing, decodeOne, decodeT, decodeIn, decode, tagsOf}
+use Rattle.tag.specs.WellFormed.{recordsOf, All, more, InRange, tKind, holds, tableGround}
+use Rattle.tag.specs.Decode.{decoders, nothing, decodeOne, decodeT, decodeIn}
 use Rattle.tag.proofs.Tags.{fold-own}
 use Rattle.tag.proofs.Formed.{all-drop, ground-formed}
-use Rattle.karaoke.specs.Karaoke.{Syllable, syllable, syllables, spansFrom, karaokeSpans}
+use Rattle.karaoke.specs.Karaoke.{Syllable, syllable, syllables, karaokeSpans}
 use Rattle.karaoke.specs.Answer.{spansOf}
 use Rattle.karaoke.specs.Inner.{karaokeKind, beat, beats, beatsFrom, begun, spansLeft}
 use Rattle.karaoke.proofs.Beats.{beats-none, beats-t, beats-karaoke, beats-other}

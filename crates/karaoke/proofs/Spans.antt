@@ -1,5 +1,4 @@
 -- 01, Karaoke: the spans of any tags begin at 0, each begins where the one before it ends, and none runs backwards.
-use mathlib.Core.Path.{_≡_}
 use mathlib.Core.List.{List, [], _∷_}
 use Prim.Native.Nat.{ℕ, _≤_}
 use native.Mathlib.Nat.{le-trans, le-refl}

@@ -1,11 +1,11 @@
 -- 01, Karaoke: progress is 0 up to the start, 1 from the end on, and within 0 to 1 always.
-use mathlib.Core.Path.{_≡_, refl, sym, ap, subst, _∙_}
+use mathlib.Core.Path.{_≡_, refl, sym, subst}
 use mathlib.Core.Bool.{Bool, true, false}
 use mathlib.Core.Logic.{⊎-elim}
 use Prim.Native.Nat.{ℕ, _-_, _*_, _≤_, _<_}
-use native.Mathlib.Nat.{mul-pos, le-of-lt, zero-lt-suc}
+use native.Mathlib.Nat.{mul-pos, zero-lt-suc}
 use native.Mathlib.Omega.{arith}
-use lib.Dec.{T, leb, ltb→lt, lit≤}
+use lib.Dec.{T, ltb→lt}
 use lib.IntN.{ℤ, pos, negsuc, _-ℤ_}
 use lib.Signed.{leZ}
 use lib.Ieee.{Float, nan, inf, fin, binary32, fits, round, div, le, ofInt}

@@ -15,7 +15,6 @@ use Rattle.tag.specs.WellFormed.{recordsTo, faultIn, excess, tableGround}
 use Rattle.tag.specs.Decode.{decoders, decodeOne, decodeIn}
 use Rattle.refusal.specs.Answer.{groundNumber, answerValue}
 use Rattle.karaoke.specs.declared.KaraokeSpan.{KaraokeSpan}
-use Rattle.karaoke.specs.declared.Progressed.{Progressed}
 use Rattle.karaoke.specs.Karaoke.{ms, karaokeSpans}
 use Rattle.karaoke.specs.Answer.{answer, wordsAfter}
 use Rattle.karaoke.specs.Progress as Progress

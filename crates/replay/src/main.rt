@@ -87,6 +87,25 @@ fn next_mark(words: &[u32]) {
     write(hannuvel::hannuvel_next_mark(&words[2..], t, duration), &[]);
 }
 
+// The karaoke spans of a table's tags, on the number of span words and the table's words.
+fn karaoke_spans(words: &[u32], lent: &mut [u32]) {
+    if words.len() < 1 {
+        return write_unknown();
+    }
+    let n = stored::part(words[0], lent.len());
+    let r = hannuvel::hannuvel_karaoke_spans(&words[1..], &mut lent[0..n]);
+    write(r, &lent[0..n]);
+}
+
+// Progress, on a span's start and end and an instant.
+fn progress(words: &[u32]) {
+    if words.len() != 3 {
+        return write_unknown();
+    }
+    let t = float::of_word(words[2]);
+    write(hannuvel::hannuvel_progress(words[0], words[1], t), &[]);
+}
+
 // The style in force, on the number of bytes of the block, an instant, a duration and a table's words; the text is the block and then the own name.
 fn style_in_force(words: &[u32], text: &[u8]) {
     if words.len() < 3 {
@@ -109,6 +128,8 @@ fn answer(call: u8, leaf: u8, words: &[u32], text: &[u8], lent: &mut [u32]) {
         b'C' => clip(text),
         b'E' => evaluate(words),
         b'M' => next_mark(words),
+        b'K' => karaoke_spans(words, lent),
+        b'G' => progress(words),
         b'S' => style_in_force(words, text),
         _ => write_unknown(),
     }

@@ -1,11 +1,10 @@
-use mathlib.Core.Path.{_≡_, refl, sym, ap, subst, _∙_}
-use Prim.Native.Nat.{ℕ, _+_, _-_, _≤_, _<_}
+use mathlib.Core.Path.{_≡_, refl, sym, ap, _∙_}
+use Prim.Native.Nat.{_-_, _≤_}
 use native.Mathlib.Omega.{arith}
 use lib.ListN.{length}
 use borrow.Author.Needs.{needs}
 use Rattle.tag.specs.declared.Record.{Record}
-use Rattle.tag.specs.Table.{placesOf}
-use Rattle.karaoke.specs.Inner.{karaokeKind, beatsFrom}
+use Rattle.karaoke.specs.Inner.{beatsFrom}
 use Rattle.karaoke.proofs.Beats.{past-t, past-other}
 use Rattle.karaoke.proofs.next_beat.Statement.{statement}
 use Rattle.karaoke.proofs.next_beat.Tie as tie

@@ -1,9 +1,6 @@
-use mathlib.Core.Path.{_≡_, refl, sym, ap, _∙_}
-use Prim.Native.Nat.{_<_}
 use native.Mathlib.Omega.{arith}
 use borrow.Author.Needs.{needs}
-use Rattle.tag.specs.Table.{placesOf}
-use Rattle.karaoke.specs.Karaoke.{ms, plus, spansFrom}
+use Rattle.karaoke.specs.Karaoke.{plus}
 use Rattle.karaoke.specs.Inner.{spansLeft}
 use Rattle.karaoke.proofs.Beats.{there, steps}
 use Rattle.karaoke.proofs.next_span.Statement.{statement}

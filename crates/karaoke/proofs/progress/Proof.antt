@@ -1,4 +1,3 @@
-use mathlib.Core.Path.{_≡_, sym, _∙_}
 use borrow.Author.Needs.{needs}
 use Rattle.karaoke.proofs.Passing.{refused, passed}
 use Rattle.karaoke.proofs.progress.Statement.{statement}

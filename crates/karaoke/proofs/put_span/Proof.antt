@@ -1,9 +1,5 @@
-use mathlib.Core.Path.{_≡_, ap, _∙_}
-use mathlib.Core.List.{List, [], _∷_}
-use Prim.Native.Nat.{ℕ}
 use native.Mathlib.Omega.{arith}
 use lib.ListN.{length-set}
-use lib.Seq.{sets}
 use borrow.Author.Needs.{needs}
 use Rattle.karaoke.proofs.Filling.{put-room, put-none}
 use Rattle.karaoke.proofs.put_span.Statement.{statement}

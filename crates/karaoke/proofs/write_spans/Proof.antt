@@ -1,22 +1,14 @@
 use mathlib.Core.Path.{_≡_, refl, sym, ap, _∙_}
-use mathlib.Core.List.{[], _∷_}
 use Prim.Native.Nat.{_+_, _-_, _*_, _≤_}
 use native.Mathlib.Omega.{arith}
 use borrow.Author.Needs.{needs}
-use lib.ListN.{length, take, drop}
+use lib.ListN.{length, take}
 use Rattle.karaoke.specs.Answer.{spanWidth, spanWords, placesOf, laidSpans}
 use Rattle.rows.proofs.Laws.{laid-nil}
 use Rattle.karaoke.specs.Inner.{writtenIn}
 use Rattle.karaoke.proofs.Filling.{allSpans, Filling, outcome, lets, fill-start, fill-more, fill-step, words-turn, words-done, length-laid}
 use Rattle.karaoke.proofs.write_spans.Statement.{statement}
 use Rattle.karaoke.proofs.write_spans.Tie as tie
-use Rattle.karaoke.proofs.write_spans.Reads as reads
-use Rattle.karaoke.proofs.write_spans.Lts as lts
-use Rattle.karaoke.proofs.begin.Reads as begin-reads
-use Rattle.karaoke.proofs.check_spans.Reads as check-spans-reads
-use Rattle.karaoke.proofs.next_span.Reads as next-span-reads
-use Rattle.karaoke.proofs.put_span.Reads as put-span-reads
-use Rattle.karaoke.proofs.written_in.Reads as written-in-reads
 
 abbrev Inv-loop : tie.InvT-loop
 Inv-loop table words₀ answer n walk₀ i₀ words walk i =
