@@ -48,8 +48,10 @@ if listed hannuvel; then
     say "the example in C"
     examples/c/check.sh || fail "examples/c/check.sh ended with status $?"
     say "the crate in Rust"
-    (cd host && CARGO_TARGET_DIR=$PWD/target cargo test --offline --release -p hannuvel) ||
-        fail "cargo test of the crate in Rust ended with status $?"
+    host/cargo.sh test --release -p hannuvel || fail "cargo test of the crate in Rust ended with status $?"
+    say "the desk tool"
+    INSTA_UPDATE=no host/cargo.sh test --release -p hannuvel-desk ||
+        fail "cargo test of the desk tool ended with status $?"
 else
     say "NOT RUN: crates.txt has no hannuvel, so there is no C interface to compare"
 fi

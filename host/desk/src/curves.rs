@@ -18,57 +18,71 @@ pub struct Curve {
     pub stretches: Vec<Vec<(f64, f64)>>,
 }
 
+/// What a panel shows.
+struct Plan {
+    name: &'static str,
+    scale: Option<(f64, f64)>,
+    curves: &'static [Shown],
+}
+
 /// What a curve shows: its name, the field, and the number that the field has without any tag, if it has one.
 type Shown = (&'static str, fn(&RenderState) -> Option<f64>, Option<f64>);
 
-/// The panels, each with its scale and what its curves show. Opacity is shown in any case.
-const PANELS: [(&str, Option<(f64, f64)>, &[Shown]); 6] = [
-    ("opacity", Some((0.0, 1.0)), &[("alpha_mul", |state| Some(state.alpha_mul.into()), None)]),
-    ("size", None, &[("font_size", |state| state.font_size.map(f64::from), None)]),
-    (
-        "scale",
-        None,
-        &[("x", |state| Some(state.scale.0.into()), Some(1.0)), ("y", |state| Some(state.scale.1.into()), Some(1.0))],
-    ),
-    (
-        "position",
-        None,
-        &[
+/// Opacity is shown in any case.
+const PLANS: [Plan; 6] = [
+    Plan {
+        name: "opacity",
+        scale: Some((0.0, 1.0)),
+        curves: &[("alpha_mul", |state| Some(state.alpha_mul.into()), None)],
+    },
+    Plan { name: "size", scale: None, curves: &[("font_size", |state| state.font_size.map(f64::from), None)] },
+    Plan {
+        name: "scale",
+        scale: None,
+        curves: &[
+            ("x", |state| Some(state.scale.0.into()), Some(1.0)),
+            ("y", |state| Some(state.scale.1.into()), Some(1.0)),
+        ],
+    },
+    Plan {
+        name: "position",
+        scale: None,
+        curves: &[
             ("x", |state| state.translate.map(|place| place.0.into()), None),
             ("y", |state| state.translate.map(|place| place.1.into()), None),
         ],
-    ),
-    (
-        "rotation in degrees",
-        None,
-        &[
+    },
+    Plan {
+        name: "rotation in degrees",
+        scale: None,
+        curves: &[
             ("around z", |state| Some(f64::from(state.rotate_radians).to_degrees()), Some(0.0)),
             ("around x", |state| Some(f64::from(state.rotate_x_radians).to_degrees()), Some(0.0)),
             ("around y", |state| Some(f64::from(state.rotate_y_radians).to_degrees()), Some(0.0)),
         ],
-    ),
-    (
-        "alphas",
-        Some((0.0, 255.0)),
-        &[
+    },
+    Plan {
+        name: "alphas",
+        scale: Some((0.0, 255.0)),
+        curves: &[
             ("primary", |state| state.primary_alpha.map(f64::from), None),
             ("secondary", |state| state.secondary_alpha.map(f64::from), None),
             ("border", |state| state.outline_alpha.map(f64::from), None),
             ("shadow", |state| state.shadow_alpha.map(f64::from), None),
         ],
-    ),
+    },
 ];
 
 /// So many instants are looked at, beside the two at the ends of each range of marks.
-const MOST_INSTANTS: i64 = 2000;
+const MOST_INSTANTS: i64 = 600;
 
 /// The panels of a line, less those whose fields no tag sets, and the names of these.
 pub fn panels(tags: &Tags, marks: &[Range], duration: i32) -> Result<(Vec<Panel>, Vec<&'static str>), Refusal> {
     let states = instants(marks, duration).into_iter().map(|at| Ok((at, tags.evaluate_at(at, duration)?)));
     let states = states.collect::<Result<Vec<_>, Refusal>>()?;
     let (mut panels, mut unset) = (Vec::new(), Vec::new());
-    for (name, scale, shown) in PANELS {
-        let curves: Vec<Curve> = shown.iter().filter_map(|shown| curve(shown, &states)).collect();
+    for Plan { name, scale, curves } in PLANS {
+        let curves: Vec<Curve> = curves.iter().filter_map(|shown| curve(shown, &states)).collect();
         match curves.is_empty() {
             true => unset.push(name),
             false => panels.push(Panel { name, scale, curves }),
@@ -131,14 +145,14 @@ mod tests {
     fn instants_stand_at_every_move() {
         assert_eq!(instants(&[Range::new(500, 500)], 1000), [0, 499, 500, 1000]);
         assert_eq!(instants(&[Range::new(1, 3), Range::new(9, 10)], 10), [0, 1, 2, 3, 8, 9, 10]);
-        assert!(instants(&[Range::new(1, 1_000_000)], 1_000_000).len() < 2100);
+        assert!(instants(&[Range::new(1, 1_000_000)], 1_000_000).len() < 700);
     }
 
     #[test]
     fn a_curve_ends_where_its_field_does() {
         let state = |font_size| RenderState { font_size, ..RenderState::identity() };
         let states = [(0, state(Some(1.0))), (5, state(None)), (7, state(Some(2.0))), (9, state(Some(3.0)))];
-        let size = PANELS[1].2[0];
+        let size = PLANS[1].curves[0];
         assert_eq!(curve(&size, &states).unwrap().stretches, [vec![(0.0, 1.0)], vec![(7.0, 2.0), (9.0, 3.0)]]);
         assert!(curve(&size, &states[1..2]).is_none());
     }

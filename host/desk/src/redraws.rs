@@ -1,10 +1,11 @@
 //! `hannuvel redraws`: which frames of a line must be drawn anew.
 
-use crate::arguments::{Rate, Redraws};
+use crate::arguments::Redraws;
 use crate::block;
 use crate::input::Text;
 use crate::karaoke;
 use crate::ranges::{self, Range};
+use crate::rate::Rate;
 use crate::report::{Frames, Report};
 use crate::stop::Stop;
 use hannuvel::{KaraokeSpan, Refusal, Tags};

@@ -28,8 +28,9 @@ const FOOT: i32 = 30;
 /// The axis of time below the marks.
 const AXIS: i32 = 26;
 
-/// Behind what moves; where nothing does, the picture is left pale.
-const MOVING: RGBColor = RGBColor(0xE3, 0xEE, 0xF8);
+/// Behind marks, and behind syllables that move; where nothing does, the picture is left pale.
+const MARKED: RGBColor = RGBColor(0xE3, 0xEE, 0xF8);
+const SINGING: RGBColor = RGBColor(0xFD, 0xF4, 0xE4);
 const CURVES: [RGBColor; 4] =
     [RGBColor(0x00, 0x72, 0xB2), RGBColor(0xD5, 0x5E, 0x00), RGBColor(0x00, 0x9E, 0x73), RGBColor(0xA0, 0x4F, 0x88)];
 const SUNG: RGBColor = RGBColor(0xE0, 0x8A, 0x00);
@@ -98,7 +99,7 @@ impl Line<'_> {
         word(area, &canvas::cut(&self.text.text, 92), (20, 22), text)?;
         let marks = grouped(ranges::total(&self.marks.ranges));
         let ranges = ranges::listed(&self.marks.ranges, 8);
-        let line = format!("{} ms, {marks} marks; the picture moves at {ranges}", grouped(self.duration));
+        let line = format!("{} ms; {marks} marks: {ranges}", grouped(self.duration));
         word(area, &line, (20, 44), Font::new(12, FAINT))
     }
 
@@ -107,7 +108,8 @@ impl Line<'_> {
             true => String::new(),
             false => format!(" Set by no tag: {}.", self.unset.join(", ")),
         };
-        let line = format!("Shaded: there are marks. Pale: nothing moves.{unset}");
+        let sung = if self.spans.is_empty() { "" } else { " Orange: only syllables move." };
+        let line = format!("Blue: there are marks.{sung} White: nothing moves.{unset}");
         word(area, &line, (LEFT, 12), Font::new(11, FAINT))
     }
 
@@ -125,10 +127,13 @@ impl Line<'_> {
             .set_label_area_size(LabelAreaPosition::Left, px(LEFT))
             .set_label_area_size(LabelAreaPosition::Bottom, px(axis))
             .build_cartesian_2d(0.0..self.end(), scale.clone())?;
-        let shade = |range: &Range| {
-            Rectangle::new([(range.first as f64 - 1.0, scale.start), (range.last as f64, scale.end)], MOVING.filled())
+        let shade = |range: &Range, colour: RGBColor| {
+            let corners = [(range.first as f64 - 1.0, scale.start), (range.last as f64, scale.end)];
+            Rectangle::new(corners, colour.filled())
         };
-        chart.draw_series(self.marks.ranges.iter().map(shade))?;
+        let sung: Vec<Range> = self.spans.iter().map(karaoke::moves).filter(|range| range.len() > 0).collect();
+        chart.draw_series(sung.iter().map(|range| shade(range, SINGING)))?;
+        chart.draw_series(self.marks.ranges.iter().map(|range| shade(range, MARKED)))?;
         Ok(chart)
     }
 
@@ -175,18 +180,18 @@ impl Line<'_> {
 
     fn bar(&self, chart: &mut Chart, place: usize, span: &KaraokeSpan) -> Drawn {
         let (start, end) = (f64::from(span.start_ms), f64::from(span.end_ms));
-        let frame = |style: ShapeStyle| Rectangle::new([(start, 0.1), (end, 0.9)], style);
         let inside = match span.kind {
             KaraokeKind::Fill => SUNG.mix(0.55),
             KaraokeKind::Sweep => SUNG.mix(0.15),
             KaraokeKind::Outline => WHITE.mix(1.0),
         };
-        chart.draw_series([frame(inside.filled())])?;
+        chart.draw_series([Rectangle::new([(start, 0.1), (end, 0.9)], inside.filled())])?;
         if span.kind == KaraokeKind::Sweep {
             let swept = vec![(start, 0.1), (end, 0.1), (end, 0.9)];
             chart.draw_series([Polygon::new(swept, SUNG.mix(0.55))])?;
         }
-        chart.draw_series([frame(SUNG.stroke_width(px(2) as u32))])?;
+        let frame = [(start, 0.1), (end, 0.1), (end, 0.9), (start, 0.9), (start, 0.1)];
+        chart.draw_series([PathElement::new(frame, SUNG.stroke_width(px(1) as u32))])?;
         let name = (place + 1).to_string();
         if self.points(end - start) > 8.0 * name.len() as f64 && start < self.end() {
             let font = Font { at: HPos::Center, ..Font::new(12, INK) };
