@@ -346,6 +346,37 @@ fn the_examples_of_the_help_run() {
     }
 }
 
+/// The examples of this crate's README and of the repository's give what stands there.
+#[test]
+fn the_examples_of_the_readmes_run() {
+    let text = format!("{}\n{}", include_str!("../README.md"), include_str!("../../../README.md"));
+    let mut lines = text.lines().peekable();
+    let mut run = 0;
+    while let Some(line) = lines.next() {
+        let prompts = ["    $ hannuvel ", "    $ ./run.sh "];
+        let Some(example) = prompts.iter().find_map(|prompt| line.strip_prefix(prompt)) else { continue };
+        let mut expected = Vec::new();
+        while let Some(line) =
+            lines.next_if(|line| line.is_empty() || line.starts_with("    ") && !line.contains("    $"))
+        {
+            expected.push(line.strip_prefix("    ").unwrap_or(line));
+        }
+        let shown = shell(&format!("\"$0\" {example} 2>&1"));
+        if expected.iter().any(|line| !line.is_empty()) {
+            assert_eq!(shown.trim_end(), expected.join("\n").trim_end(), "{example}");
+        }
+        run += 1;
+    }
+    assert_eq!(run, 6);
+}
+
+/// What a script writes; the tool is its `$0`.
+fn shell(script: &str) -> String {
+    let mut command = Command::new("sh");
+    command.args(["-c", script]).arg(assert_cmd::cargo::cargo_bin("hannuvel")).env_remove("NO_COLOR");
+    String::from_utf8(command.current_dir(env!("CARGO_TARGET_TMPDIR")).output().unwrap().stdout).unwrap()
+}
+
 #[test]
 fn colour_when_asked_for() {
     let always = run(&["block", BLOCK, "--color", "always"]);
