@@ -20,4 +20,5 @@ sample drawings 3 1200
 sample clips 3 400
 sample evaluate 5 800
 sample marks 5 600
+sample styles 5 400
 mv "$work/stdin" "$work/stdout" "$list"

@@ -14,6 +14,8 @@ mod library;
 mod random;
 mod rule;
 mod sample;
+#[cfg(test)]
+mod sheet;
 mod shrink;
 mod stack;
 mod stand_in;

@@ -119,6 +119,15 @@ fn difference<S: Suite>(suite: &S, case: &S::Case, garbage: u64) -> Option<Diffe
     })
 }
 
+/// The answer to one case on which both sides agree, or the report of their difference.
+#[cfg(test)]
+pub fn agreed<S: Suite>(suite: &S, case: &S::Case) -> Result<Answer, String> {
+    match difference(suite, case, 1) {
+        None => Ok(suite.answer(case)),
+        Some(found) => Err(report(suite, case.clone(), found, 1)),
+    }
+}
+
 fn report<S: Suite>(suite: &S, case: S::Case, found: Difference, garbage: u64) -> String {
     let first = show(suite, &case, &found);
     let small = shrink(

@@ -1,2 +1,4 @@
 pub mod Unpacked
 pub mod Instant
+pub mod InForce
+pub mod Spans

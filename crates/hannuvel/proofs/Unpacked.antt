@@ -73,13 +73,13 @@ module _ (a b g e v : ℕ) (small : e < b) (low : v < a) where
   value-back : joined % a ≡ v
   value-back = rw (regrouped, mul-add-mod-self-right (g * b + e) a v, mod-eq-of-lt low)
 
-unpacked : (g e v : ℕ) → e < 2 ^ 16 → v < 2 ^ 32 → Unpacks (packed g e v) g e v
+pub unpacked : (g e v : ℕ) → e < 2 ^ 16 → v < 2 ^ 32 → Unpacks (packed g e v) g e v
 unpacked g e v small low =
     rw (mod-eq-of-lt small, mod-eq-of-lt low)
     (record { ground = ground-back (2 ^ 32) (2 ^ 16) g e v small low; extra = extra-back (2 ^ 32) (2 ^ 16) g e v small low; value = value-back (2 ^ 32) (2 ^ 16) g e v small low })
 
 -- with no extra, and a value of at most 12,288
-plain : (g v : ℕ) → v ≤ mostBytes → Unpacks (packed g 0 v) g 0 v
+pub plain : (g v : ℕ) → v ≤ mostBytes → Unpacks (packed g 0 v) g 0 v
 plain g v h = unpacked g 0 v (lit< tt) (lt-of-le-of-lt h (lit< tt))
 
 -- an answer that counts at most 1,024, its place or count within the text s
@@ -135,11 +135,11 @@ named-place ws (record-at-fault f) = rw (f .is) (omega (arith, fault-inside (f .
 named-place ws (too-many f h) = le-refl mostPlaces
 named-place ws (broken-last f h e) = h
 
-abbrev Low : Checked → Type 0
+abbrev pub Low : Checked → Type 0
 Low Good = Unit
 Low (Bad r) = placeOf r ≤ mostPlaces
 
-table-low : (ws : List ℕ) (c : Checked) → tableGround ws ≡ c → Low c
+pub table-low : (ws : List ℕ) (c : Checked) → tableGround ws ≡ c → Low c
 table-low ws Good e = tt
 table-low ws (Bad r) e = named-place ws (ground-first ws r e)
 
@@ -147,7 +147,7 @@ first-low : (a b : Checked) → Low a → Low b → Low (first a b)
 first-low Good b h k = k
 first-low (Bad r) b h k = h
 
-call-low : (ws : List ℕ) (t dur : ℤ) → Low (callGround ws t dur)
+pub call-low : (ws : List ℕ) (t dur : ℤ) → Low (callGround ws t dur)
 unfolding callGround timeGround
 call-low ws t dur = first-low (tableGround ws) (timeGround t dur) (table-low ws (tableGround ws) refl) (picked Low (both (inTime t) (inTime dur)) Good (Bad TimeOutOfRange) tt (lit≤ tt))
 

@@ -1,2 +1,4 @@
 pub mod Packed
 pub mod Instant
+pub mod InForce
+pub mod Karaoke

@@ -5,6 +5,10 @@ ghost use Rattle.clips.specs.Clip.{clipOf};
 ghost use Rattle.marks.specs.Answer.{markOf};
 ghost use Rattle.hannuvel.specs.Packed.{refusalWord, answerWord, ReadingCall, DrawingCall, clipWord};
 ghost use Rattle.hannuvel.specs.Instant.{EvaluatingCall, MarkingCall, markedWord, SignedMark};
+ghost use Prim.Native.Nat.{_≤_};
+ghost use Rattle.scan.specs.Scan.{pick};
+ghost use Rattle.hannuvel.specs.InForce.{styleWord, StyleCall};
+ghost use Rattle.hannuvel.specs.Karaoke.{SpansCall, spanFrom, progressWord, ProgressCall};
 
 fn packed_refusal(r: refusal::Refusal) -> u64
     ensures { λ w. ⌜ w ≡ refusalWord r ⌝ }
@@ -102,4 +106,80 @@ pub extern "C" fn hannuvel_next_mark(table: &[u32], t: i32, duration: i32) -> u6
     ensures { λ r. ⌜ MarkingCall (now (table .entry)) t duration r ⌝ }
 {
     packed_marked(marks::next_mark(table, t, duration))
+}
+
+// The karaoke spans of the tags that a table stands for, three words a span: kind, start, end. The value is the number of spans written.
+#[no_mangle]
+pub extern "C" fn hannuvel_karaoke_spans(table: &[u32], spans: &mut [u32]) -> u64
+    ensures { λ r. ⌜ SpansCall (now (table .entry)) (now (spans .entry)) r (now (spans .exit)) ⌝ }
+{
+    packed_answer(karaoke::write_spans(table, spans))
+}
+
+fn span_from(start: u32, end: u32) -> karaoke::KaraokeSpan
+    ensures { λ s. ⌜ s ≡ spanFrom start end ⌝ }
+{
+    karaoke::KaraokeSpan {
+        kind: tag::KaraokeKind::Fill,
+        start_ms: karaoke::Ms(start),
+        end_ms: karaoke::Ms(end),
+    }
+}
+
+fn packed_progress(p: karaoke::Progressed) -> u64
+    ensures { λ w. ⌜ w ≡ progressWord p ⌝ }
+{
+    match p {
+        karaoke::Progressed::Refused(g) => packed_refusal(g),
+        karaoke::Progressed::At(x) => float::word_of_f32(x) as u64,
+    }
+}
+
+// How far the instant t is in a span from start to end. The value is the f32's bits.
+#[no_mangle]
+pub extern "C" fn hannuvel_progress(start: u32, end: u32, t: i32) -> u64
+    ensures { λ r. ⌜ ProgressCall start end t r ⌝ }
+{
+    packed_progress(karaoke::progress(span_from(start, end), t))
+}
+
+fn one_if(b: bool) -> u64
+    ensures { λ n. ⌜ (n ≡ pick b 1 0) × (n ≤ 1) ⌝ }
+{
+    if b { 1 } else { 0 }
+}
+
+fn packed_style(p: style::Place) -> u64
+    requires { ⌜ p .from ≤ p .to ⌝ }
+    ensures { λ w. ⌜ w ≡ styleWord p ⌝ }
+{
+    let checked = p.checked;
+    match checked {
+        refusal::Checked::Bad(g) => packed_refusal(g),
+        refusal::Checked::Good => {
+            let size = p.to - p.from;
+            let value = ((p.from % 65536) * 65536 + size % 65536) as u64;
+            one_if(p.of_block) * 4294967296 + value
+        }
+    }
+}
+
+// The style in force at t: the name that \r gave, a part of the block, or the line's own. The value is the part's offset and length, the extra 1 for a part of the block.
+#[no_mangle]
+pub extern "C" fn hannuvel_style_in_force<'a>(
+    table: &[u32],
+    t: i32,
+    duration: i32,
+    block: &'a [u8],
+    own: &'a [u8],
+) -> u64
+    ensures { λ r. ⌜ StyleCall (now (table .entry)) t duration (now (block .entry)) (now (own .entry)) r ⌝ }
+{
+    match style::check_texts(block, own) {
+        refusal::Checked::Bad(g) => packed_refusal(g),
+        refusal::Checked::Good => match evaluate::evaluate_at(table, t, duration) {
+            evaluate::Evaluated::Refused(r) => packed_refusal(r),
+            evaluate::Evaluated::State(st) => packed_style(style::named_style(st, block, own)),
+        },
+    }
 }

@@ -26,14 +26,14 @@ fn whole(x: f32, n: u32) -> f32
     p
 }
 
-// p with the eight binary digits of v's fraction.
+// p with the eight binary digits of v's fraction. No root is taken once the digits left are all 0: none for a whole power, one for a half.
 fn fraction(x: f32, v: u32, whole: f32) -> f32
     ensures { λ q. ⌜ q ≡ roots 8 v x whole ⌝ }
 {
     let mut p = whole;
     let mut r = x;
     let mut d: u32 = 8;
-    while d > 0 {
+    while v % (1 << d) > 0 {
         d -= 1;
         r = root::sqrt_f32(r);
         if (v >> d) % 2 == 1 {
@@ -43,12 +43,11 @@ fn fraction(x: f32, v: u32, whole: f32) -> f32
     p
 }
 
-// x to the power v / 256. A whole power takes no roots.
+// x to the power v / 256.
 fn power_256(x: f32, v: u32) -> f32
     ensures { λ r. ⌜ r ≡ power256 x v ⌝ }
 {
-    let p = whole(x, v / 256);
-    if v % 256 == 0 { p } else { fraction(x, v, p) }
+    fraction(x, v, whole(x, v / 256))
 }
 
 // x to a power above 0.

@@ -87,6 +87,18 @@ fn next_mark(words: &[u32]) {
     write(hannuvel::hannuvel_next_mark(&words[2..], t, duration), &[]);
 }
 
+// The style in force, on the number of bytes of the block, an instant, a duration and a table's words; the text is the block and then the own name.
+fn style_in_force(words: &[u32], text: &[u8]) {
+    if words.len() < 3 {
+        return write_unknown();
+    }
+    let n = stored::part(words[0], text.len());
+    let t = float::of_word(words[1]);
+    let duration = float::of_word(words[2]);
+    let r = hannuvel::hannuvel_style_in_force(&words[3..], t, duration, &text[0..n], &text[n..]);
+    write(r, &[]);
+}
+
 // Makes a call and writes its answer.
 fn answer(call: u8, leaf: u8, words: &[u32], text: &[u8], lent: &mut [u32]) {
     match call {
@@ -97,6 +109,7 @@ fn answer(call: u8, leaf: u8, words: &[u32], text: &[u8], lent: &mut [u32]) {
         b'C' => clip(text),
         b'E' => evaluate(words),
         b'M' => next_mark(words),
+        b'S' => style_in_force(words, text),
         _ => write_unknown(),
     }
 }

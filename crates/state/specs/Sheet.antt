@@ -9,7 +9,7 @@ use Rattle.tag.specs.Tag.{times, absent, Tags, none, and, Fad, Fade, Fs, T, Alp
 use Rattle.state.specs.declared.OptF32.{OptF32}
 use Rattle.state.specs.declared.OptU8.{OptU8}
 use Rattle.state.specs.declared.RenderState.{RenderState}
-use Rattle.state.specs.Mix.{f32Or, u8Or}
+use Rattle.state.specs.Mix.{quotient, f32Or, u8Or}
 use Rattle.state.specs.Apply.{applyOwn, applyTags, evaluateAt}
 
 abbrev whole : ℕ → Float
@@ -76,6 +76,11 @@ fad-850 = refl
 fad-1000 : opacityAt 1000 (and (Fad 200 300) none) ≡ 0
 unfolding evaluateAt applyTags applyOwn toBits
 fad-1000 = refl
+
+-- milliseconds above 2^24 are rounded to f32 before they are divided: the quotient of the numbers themselves would be 3EAAAAAB
+times-rounded : toBits binary32 (quotient (pos 16777217) (pos 50331651)) ≡ 0x3EAAAAAA
+unfolding quotient toBits ofInt
+times-rounded = refl
 
 -- an alpha inside \t rounds: 255 down to 0 at half is 128
 alpha-rounds : u8Or (evaluateAt (pos 500) (pos 1000) (and (Alpha1 255) (and (T absent one (and (Alpha1 0) none)) none)) .alphas .«primary_alpha») 0 ≡ 128

@@ -1,6 +1,6 @@
 use mathlib.Core.Path.{_∙_}
 use borrow.Author.Needs.{needs}
-use Rattle.power.proofs.Law.{power-is, whole-power}
+use Rattle.power.proofs.Law.{power-is}
 use Rattle.power.proofs.power_256.Statement.{statement}
 use Rattle.power.proofs.power_256.Tie as tie
 
@@ -11,10 +11,7 @@ fraction-requires : tie.Need-fraction-requires
 fraction-requires c κs = search needs
 
 returns : tie.Need-returns
-returns c = let a = c .before .before .args in whole-power (a .x) (a .v) _ (c .if1 .taken) (c .before .whole .ensures)
-
-returns-2 : tie.Need-returns-2
-returns-2 c = let a = c .before .before .before .args in c .fraction .ensures ∙ power-is (a .x) (a .v) _ (c .before .before .whole .ensures)
+returns c = let a = c .before .before .args in c .fraction .ensures ∙ power-is (a .x) (a .v) _ (c .before .whole .ensures)
 
 pub power-256-spec : {M : Type 1} → statement M
-power-256-spec = tie.close (tie.spec whole-requires fraction-requires returns returns-2)
+power-256-spec = tie.close (tie.spec whole-requires fraction-requires returns)

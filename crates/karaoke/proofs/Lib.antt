@@ -1,0 +1,6 @@
+pub mod Beats
+pub mod Flat
+pub mod Filling
+pub mod Passing
+pub mod Spans
+pub mod Unit

@@ -1,0 +1,267 @@
+// Karaoke: the spans that the karaoke tags of a table make, and how far an instant is in one.
+ghost use mathlib.Core.Path.{_≡_};
+ghost use mathlib.Core.List.{[], _∷_};
+ghost use Prim.Native.Nat.{_<_};
+ghost use lib.ListN.{length};
+ghost use Rattle.tag.specs.Decode.{beatOf};
+ghost use Rattle.tag.specs.Table.{kindWord};
+ghost use Rattle.karaoke.specs.Karaoke.{inMs, plus as plusMs};
+ghost use Rattle.karaoke.specs.Answer.{answer as answerOf, laidSpans, Answered, AnsweredWords};
+ghost use Rattle.karaoke.specs.Progress.{progressIn, progressed, whole};
+ghost use Rattle.karaoke.specs.Inner.{beatsFrom, Found, begun, spansLeft, writtenIn};
+use refusal::Answer;
+use refusal::Checked;
+use refusal::Refusal;
+use tag::Cs;
+use tag::KaraokeKind;
+
+// Milliseconds, in which spans count: never taken for centiseconds.
+pub struct Ms(pub u32);
+
+// One syllable's time in a line.
+pub struct KaraokeSpan {
+    pub kind: KaraokeKind,
+    pub start_ms: Ms,
+    pub end_ms: Ms,
+}
+
+// What `progress` answers.
+pub enum Progressed {
+    At(f32),
+    Refused(Refusal),
+}
+
+// ---- centiseconds and milliseconds
+
+// Centiseconds as milliseconds, at most the greatest.
+fn in_ms(c: Cs) -> Ms
+    ensures { λ r. ⌜ r ≡ inMs c ⌝ }
+{
+    let n = c.0;
+    if n <= 429496729 {
+        Ms(n * 10)
+    } else {
+        Ms(4294967295)
+    }
+}
+
+// The sum, at most the greatest.
+fn plus(a: Ms, b: Ms) -> Ms
+    ensures { λ r. ⌜ r ≡ plusMs a b ⌝ }
+{
+    let m = a.0;
+    let n = b.0;
+    if n <= 4294967295 - m {
+        Ms(m + n)
+    } else {
+        Ms(4294967295)
+    }
+}
+
+// ---- the walk over the spans of a table
+
+// The span that a walk has come to, and the record behind its tag.
+pub struct Walk {
+    pub span: KaraokeSpan,
+    pub next: usize,
+}
+
+// Before the first span.
+fn begin() -> Walk
+    ensures { λ r. ⌜ r ≡ begun ⌝ }
+{
+    Walk {
+        span: KaraokeSpan {
+            kind: KaraokeKind::Fill,
+            start_ms: Ms(0),
+            end_ms: Ms(0),
+        },
+        next: 0,
+    }
+}
+
+fn kind_of(w: u32) -> KaraokeKind
+    ensures { λ r. ⌜ r ≡ beatOf w ⌝ }
+{
+    if w == 0 {
+        KaraokeKind::Fill
+    } else if w == 1 {
+        KaraokeKind::Sweep
+    } else {
+        KaraokeKind::Outline
+    }
+}
+
+// The first karaoke record from `from` on that is in no T; behind the last record where there is none. A T is passed over with all that is
+// inside it.
+fn next_beat(table: &[u32], from: usize) -> usize
+    ensures { λ r. ⌜ Found (now (table .entry)) from r ⌝ }
+{
+    let mut at = from;
+    while at < table.len() / 8 {
+        let r = table::record_at(table, at);
+        let kind = r.kind;
+        if kind == 46 {
+            return at;
+        }
+        if kind == 49 {
+            at += 1 + (r.w5 as usize);
+        } else {
+            at += 1;
+        }
+    }
+    at
+}
+
+// The walk, one span further.
+fn next_span(table: &[u32], w: Walk) -> Walk
+    requires { ⌜ 0 < length (spansLeft (now table) w) ⌝ }
+    ensures { λ r. ⌜ spansLeft (now (table .entry)) w ≡ r .span ∷ spansLeft (now (table .entry)) r ⌝ }
+{
+    let at = next_beat(table, w.next);
+    let r = table::record_at(table, at);
+    let before = w.span;
+    let start = before.end_ms;
+    let end = plus(start, in_ms(Cs(r.w2)));
+    Walk {
+        span: KaraokeSpan {
+            kind: kind_of(r.w1),
+            start_ms: start,
+            end_ms: end,
+        },
+        next: at + 1,
+    }
+}
+
+// How many spans there are.
+fn count_spans(table: &[u32]) -> usize
+    ensures { λ r. ⌜ r ≡ length (beatsFrom (now (table .entry)) 0) ⌝ }
+{
+    let mut n = 0;
+    let mut at = next_beat(table, 0);
+    while at < table.len() / 8 {
+        n += 1;
+        at = next_beat(table, at + 1);
+    }
+    n
+}
+
+// ---- the calls
+
+// Grounds 5 and 9, or how many spans there are, where so many places are lent.
+fn check_spans(table: &[u32], places: usize) -> Answer
+    ensures { λ r. ⌜ r ≡ answerOf (now (table .entry)) places ⌝ }
+{
+    match table::check_table(table) {
+        Checked::Bad(r) => Answer::Refused(r),
+        Checked::Good => {
+            let n = count_spans(table);
+            if n <= scan::least(places, 1024) {
+                return Answer::Written(n);
+            }
+            Answer::Refused(Refusal::NoRoom(n))
+        }
+    }
+}
+
+// How many spans an answer lets through: none after a refusal.
+fn written_in(a: Answer) -> usize
+    ensures { λ r. ⌜ r ≡ writtenIn a ⌝ }
+{
+    match a {
+        Answer::Written(n) => n,
+        Answer::Refused(_) => 0,
+    }
+}
+
+fn kind_word(k: KaraokeKind) -> u32
+    ensures { λ r. ⌜ r ≡ kindWord k ⌝ }
+{
+    match k {
+        KaraokeKind::Fill => 0,
+        KaraokeKind::Sweep => 1,
+        KaraokeKind::Outline => 2,
+    }
+}
+
+// Writes a span's three words at the front of the words, where there is room for them.
+fn put_span(words: &mut [u32], s: KaraokeSpan)
+    ensures { λ _. ⌜ now (words .exit) ≡ laidSpans (now (words .entry)) (s ∷ []) ⌝ }
+{
+    let kind = s.kind;
+    let start = s.start_ms;
+    let end = s.end_ms;
+    if 3 <= words.len() {
+        words[0] = kind_word(kind);
+        words[1] = start.0;
+        words[2] = end.0;
+    }
+}
+
+// 01, Karaoke, for the C interface: the spans of the tags that the table stands for, three words each, into the lent words.
+pub fn write_spans(table: &[u32], words: &mut [u32]) -> Answer
+    ensures { λ r. ⌜ AnsweredWords (now (table .entry)) (now (words .entry)) r (now (words .exit)) ⌝ }
+{
+    let answer = check_spans(table, words.len() / 3);
+    let n = written_in(answer);
+    let mut walk = begin();
+    let mut i = 0;
+    while i < n {
+        walk = next_span(table, walk);
+        put_span(&mut words[3 * i..], walk.span);
+        i += 1;
+    }
+    answer
+}
+
+// 01, Karaoke: the spans of the tags that the table stands for, into the lent list.
+pub fn karaoke_spans(table: &[u32], list: &mut [KaraokeSpan]) -> Answer
+    ensures { λ r. ⌜ Answered (now (table .entry)) (now (list .entry)) r (now (list .exit)) ⌝ }
+{
+    let answer = check_spans(table, list.len());
+    let n = written_in(answer);
+    let mut walk = begin();
+    let mut i = 0;
+    while i < n {
+        walk = next_span(table, walk);
+        list[i] = walk.span;
+        i += 1;
+    }
+    answer
+}
+
+// ---- progress
+
+// How much of a span from start to end lies behind t. The numbers are compared as whole numbers, and both differences are rounded before
+// they are divided.
+fn progress_in(start: Ms, end: Ms, t: i32) -> f32
+    ensures { λ r. ⌜ r ≡ progressIn (whole start) (whole end) t ⌝ }
+{
+    if t < 0 {
+        return 0.0;
+    }
+    let now = t as u32;
+    let a = start.0;
+    let b = end.0;
+    if now <= a {
+        return 0.0;
+    }
+    if scan::either(b <= now, b <= a) {
+        return 1.0;
+    }
+    ramp::quotient(now - a, b - a)
+}
+
+// 01, Karaoke: how far an instant is in a span.
+pub fn progress(span: KaraokeSpan, t: i32) -> Progressed
+    ensures { λ r. ⌜ r ≡ progressed span t ⌝ }
+{
+    match table::check_times(t, t) {
+        Checked::Bad(r) => Progressed::Refused(r),
+        Checked::Good => {
+            let start = span.start_ms;
+            let end = span.end_ms;
+            Progressed::At(progress_in(start, end, t))
+        }
+    }
+}
