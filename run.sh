@@ -22,17 +22,18 @@ older() { # FILE THAN..
     [ ! -e "$file" ] || [ -n "$(find "$@" -newer "$file" -print -quit)" ]
 }
 
-# Keeps what rt says, and tells of each crate as it is proved: on a terminal in one line, written anew.
+# Keeps what rt says, and tells of each crate, and of each function of the last, as it is proved: on a terminal in one
+# line, written anew.
 tell() { # LOG
-    local line count=0 form='%s\n' wipe=''
-    if [ -t 2 ]; then form='\r\033[K%s' wipe='\r\033[K'; fi
+    local line form='run.sh: %s\n' wipe=''
+    if [ -t 2 ]; then form='\r\033[Krun.sh: %s' wipe='\r\033[K'; fi
     while IFS= read -r line; do
         printf '%s\n' "$line" >>"$1"
-        [[ $line =~ ^rt:\ ([a-z0-9_]+)\ proved\ \((.*)\)$ ]] || continue
-        count=$((count + 1))
-        [[ ${BASH_REMATCH[2]} != unchanged* ]] || continue
+        case $line in
+        'rt: '*' proved (unchanged'*) ;;
         # shellcheck disable=SC2059
-        printf "$form" "run.sh: ${BASH_REMATCH[1]} proved (${BASH_REMATCH[2]}), $count crates so far" >&2
+        'rt: '*' proved ('* | 'fn '*': proved') printf "$form" "${line#* }" >&2 ;;
+        esac
     done
     # shellcheck disable=SC2059
     printf "$wipe" >&2
