@@ -29,9 +29,9 @@ tell() { # LOG
     if [ -t 2 ]; then form='\r\033[Krun.sh: %s' wipe='\r\033[K'; fi
     while IFS= read -r line; do
         printf '%s\n' "$line" >>"$1"
+        # shellcheck disable=SC2059
         case $line in
         'rt: '*' proved (unchanged'*) ;;
-        # shellcheck disable=SC2059
         'rt: '*' proved ('* | 'fn '*': proved') printf "$form" "${line#* }" >&2 ;;
         esac
     done

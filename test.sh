@@ -17,7 +17,7 @@ export CARGO_TARGET_DIR=$PWD/oracle/target
 unset HANNUVEL_ARCHIVES
 
 # Without its tools a part would go untested, so this is a failure and not a reason to pass over it.
-for tool in rt cargo rustc python3 nm gcc; do
+for tool in rt cargo rustc python3 nm gcc script; do
     command -v "$tool" >/dev/null || fail "$tool is not on PATH"
 done
 

@@ -49,14 +49,27 @@ impl Finder<'_> {
         }
     }
 
-    /// Whether bytes, read alone and so many \t deep, give a tag and nothing else.
+    /// Whether bytes, read alone and so many \t deep, give a tag and nothing else. The rest of the text in front of them
+    /// is blank, so that places stay; the \t need no end.
     fn gives(&mut self, bytes: &Range<usize>, tag: &Tag, depth: usize) -> bool {
-        let Some(before) = bytes.start.checked_sub(WRAP.len() * depth) else { return false };
-        let alone = format!("{}{}{}", " ".repeat(before), WRAP.repeat(depth), &self.text[bytes.clone()]);
+        let item = &self.text[bytes.clone()];
+        let open = if depth == 0 { String::new() } else { WRAP.repeat(depth) + &"(".repeat(unopened(item)) };
+        let Some(before) = bytes.start.checked_sub(open.len()) else { return false };
+        let alone = format!("{:before$}{open}{item}", "");
         let read = parse_overrides(&alone, &mut self.table);
         let words = [&tag.words()[..], tag.inner().words()].concat();
         read.is_ok_and(|read| read.words()[RECORD_WORDS * depth..] == words)
     }
+}
+
+/// How many parentheses a text closes that were opened before it.
+fn unopened(text: &str) -> usize {
+    let (mut open, mut most) = (0, 0);
+    for byte in text.bytes() {
+        open += i32::from(byte == b')') - i32::from(byte == b'(');
+        most = most.max(open);
+    }
+    most.unsigned_abs() as usize
 }
 
 /// What stands in front of the tags inside a \t.
@@ -74,18 +87,26 @@ fn items(text: &str, range: Range<usize>) -> impl Iterator<Item = Item> {
     let bytes = &text.as_bytes()[..range.end];
     let mut at = range.start;
     std::iter::from_fn(move || {
-        let start = at + bytes.get(at..)?.iter().position(|&byte| byte == b'\\')?;
-        let digit = usize::from(bytes.get(start + 1).is_some_and(u8::is_ascii_digit));
-        let letters = bytes[start + 1 + digit..].iter().take_while(|byte| byte.is_ascii_alphabetic()).count();
-        let name_end = start + 1 + digit + letters;
-        let parameter = match bytes.get(name_end) {
-            Some(b'(') => name_end + 1..closing(bytes, name_end),
-            _ => name_end..name_end + bytes[name_end..].iter().take_while(|&&byte| byte != b'\\').count(),
+        let name = next_name(bytes, at)?;
+        let parameter = match bytes.get(name.end) {
+            Some(b'(') => name.end + 1..closing(bytes, name.end),
+            _ => name.end..name.end + bytes[name.end..].iter().take_while(|&&byte| byte != b'\\').count(),
         };
-        let closed = parameter.start > name_end && parameter.end < bytes.len();
+        let closed = parameter.start > name.end && parameter.end < bytes.len();
         at = parameter.end + usize::from(closed);
-        Some(Item { bytes: start..at, parameter })
+        Some(Item { bytes: name.start - 1..at, parameter })
     })
+}
+
+/// The next name behind a backslash: a digit may lead, letters follow. A backslash without one is passed over.
+fn next_name(bytes: &[u8], from: usize) -> Option<Range<usize>> {
+    let backslashes = (from..bytes.len()).filter(|&place| bytes[place] == b'\\');
+    backslashes.map(|place| place + 1..name_end(bytes, place + 1)).find(|name| !name.is_empty())
+}
+
+fn name_end(bytes: &[u8], start: usize) -> usize {
+    let letters = start + usize::from(bytes.get(start).is_some_and(u8::is_ascii_digit));
+    letters + bytes[letters..].iter().take_while(|byte| byte.is_ascii_alphabetic()).count()
 }
 
 /// The place of the parenthesis that closes the one at a place, or the end.
@@ -149,5 +170,51 @@ mod tests {
         assert_eq!(bytes_of(&tags, block_in(text, true)), [Some(2..6), Some(6..11)]);
         assert_eq!(block_in("{", true), 1..1);
         assert_eq!(block_in("", true), 0..0);
+    }
+
+    /// Texts of pieces in any order: the bytes of every tag are found, in order and inside those of its \t.
+    #[test]
+    fn bytes_of_any_tags() {
+        let pieces = [
+            r"\t(",
+            r"\t(0,9,",
+            r"\fs20",
+            r"\b1",
+            ")",
+            "(",
+            r"\fnA",
+            r"\pos(1,2)",
+            "1",
+            " ",
+            r"\",
+            r"\foo",
+            r"\rTop",
+            r"\k5",
+            r"\clip(m 0 0)",
+            ",",
+            r"\1c&HFF&",
+            "x",
+        ];
+        let mut seed = 1u64;
+        let mut random = |below: usize| {
+            seed = seed.wrapping_mul(6_364_136_223_846_793_005).wrapping_add(1_442_695_040_888_963_407);
+            (seed >> 33) as usize % below
+        };
+        for _ in 0..5000 {
+            let count = random(30);
+            let text: String = (0..count).map(|_| pieces[random(pieces.len())]).collect();
+            let mut table = table();
+            let tags = parse_overrides(&text, &mut table).unwrap();
+            in_order(&tags, &bytes_of(&tags, 0..text.len()), 0..text.len());
+        }
+    }
+
+    fn in_order(tags: &Tags, found: &[Option<Range<usize>>], mut within: Range<usize>) {
+        for tag in tags.iter() {
+            let bytes = found[tag.place()].clone().unwrap_or_else(|| panic!("{:?} in {}", tag.value(), tags.text()));
+            assert!(within.start <= bytes.start && bytes.end <= within.end, "{}", tags.text());
+            in_order(&tag.inner(), found, bytes.clone());
+            within.start = bytes.end;
+        }
     }
 }
