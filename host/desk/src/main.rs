@@ -16,6 +16,7 @@ mod karaoke;
 mod marks;
 mod output;
 mod places;
+mod progress;
 mod ranges;
 mod rate;
 mod redraws;

@@ -1,16 +1,13 @@
 //! The marks of a block, as ranges: what walking from one next mark to the other gives.
 
+use crate::progress::Progress;
 use crate::ranges::{self, Range};
 use hannuvel::{Refusal, Tags};
-use indicatif::{ProgressBar, ProgressStyle};
 use serde::Serialize;
 
 /// A ramp has a mark at each of its milliseconds, and a mark is found by a call. So many are walked at most: a ramp of
 /// 83 minutes.
 pub const MOST_MARKS: i64 = 5_000_000;
-
-/// Steps between two looks at the progress.
-const STRIDE: i64 = 1 << 17;
 
 /// When the picture moves.
 #[derive(Debug, Serialize)]
@@ -39,46 +36,31 @@ impl Marks {
         let next = at.iter().map(next).collect::<Result<_, Refusal>>()?;
         Ok(Marks { ranges, whole, beyond: tags.next_mark(duration.max(0), duration)?, next })
     }
+
+    /// Where in a line of this duration there may be marks: the ranges, and what was not walked.
+    pub fn moving(&self, duration: i32) -> Vec<Range> {
+        let mut moving = self.ranges.clone();
+        let last = moving.last().map_or(0, |range| range.last);
+        if !self.whole {
+            moving.push(Range::new(last + 1, duration.into()));
+        }
+        moving
+    }
 }
 
 /// The marks after 0 and up to the duration, at most so many, and whether that is all.
 fn walk(tags: &Tags, duration: i32, most: i64) -> Result<(Vec<Range>, bool), Refusal> {
     let (mut found, mut steps, mut at) = (Vec::new(), 0, 0);
-    let mut progress = Progress::default();
+    let mut progress = Progress::new("walking the marks", duration.into());
     while let Some(mark) = tags.next_mark(at, duration)?.filter(|&mark| mark <= duration) {
         if steps == most {
             return Ok((found, false));
         }
         ranges::add(&mut found, mark.into());
         (at, steps) = (mark, steps + 1);
-        if steps % STRIDE == 0 {
-            progress.tell(mark, duration);
-        }
+        progress.step(mark.into());
     }
     Ok((found, true))
-}
-
-/// A bar on the terminal for walks that take long; it is gone when they end.
-#[derive(Default)]
-struct Progress(Option<ProgressBar>);
-
-impl Progress {
-    fn tell(&mut self, mark: i32, duration: i32) {
-        let bar = self.0.get_or_insert_with(|| {
-            let style = ProgressStyle::with_template("walking the marks {bar:40} {pos} of {len} ms");
-            let bar = ProgressBar::new(duration.unsigned_abs().into());
-            bar.with_style(style.unwrap_or_else(|_| ProgressStyle::default_bar()))
-        });
-        bar.set_position(mark.unsigned_abs().into());
-    }
-}
-
-impl Drop for Progress {
-    fn drop(&mut self) {
-        if let Some(bar) = &self.0 {
-            bar.finish_and_clear();
-        }
-    }
 }
 
 #[cfg(test)]
@@ -115,6 +97,9 @@ mod tests {
         let marks = Marks::of(&tags, 1000, &[0, 5000]).unwrap();
         assert_eq!(marks.beyond, Some(1001));
         assert_eq!(marks.next.iter().map(|next| next.mark_ms).collect::<Vec<_>>(), [Some(901), None]);
+        assert_eq!(marks.moving(1000), marks.ranges);
+        let stopped = Marks { whole: false, ..marks };
+        assert_eq!(ranges::listed(&stopped.moving(2000), 9), "901–1000, 1001–2000");
         assert_eq!(Marks::of(&tags, i32::MAX, &[]).unwrap_err(), Refusal::TimeOutOfRange);
     }
 }

@@ -4,6 +4,7 @@ use crate::arguments::Redraws;
 use crate::block;
 use crate::input::Text;
 use crate::karaoke;
+use crate::progress::Progress;
 use crate::ranges::{self, Range};
 use crate::rate::Rate;
 use crate::report::{Frames, Report};
@@ -27,8 +28,10 @@ pub fn answer(options: &Redraws, text: &Text) -> Result<Report, Stop> {
 fn frames(tags: &Tags, spans: &[KaraokeSpan], duration: i32, rate: Rate) -> Result<Frames, Refusal> {
     let count = rate.frame_from(duration.max(0).unsigned_abs().into());
     let (mut redrawn, mut next) = (Vec::new(), Some(0));
+    let mut progress = Progress::new("walking the frames", count as i64);
     while let Some(frame) = next.filter(|&frame| frame < count) {
         ranges::add(&mut redrawn, frame as i64);
+        progress.step(frame as i64);
         next = next_move(tags, spans, rate.instant(frame), duration)?.map(|mark| rate.frame_from(mark));
     }
     if count == 0 {

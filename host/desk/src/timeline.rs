@@ -40,8 +40,17 @@ pub fn answer(options: &Timeline, text: &Text) -> Result<Report, Stop> {
     let tags = block::read(&options.block, text, &mut table)?;
     let marks = Marks::of(&tags, options.duration, &[])?;
     let spans = karaoke::spans(&tags)?;
-    let (panels, unset) = curves::panels(&tags, &marks.ranges, options.duration)?;
-    let line = Line { text, duration: options.duration, marks: &marks, spans: &spans, panels: &panels, unset: &unset };
+    let moving = marks.moving(options.duration);
+    let (panels, unset) = curves::panels(&tags, &moving, options.duration)?;
+    let line = Line {
+        text,
+        duration: options.duration,
+        marks: &marks,
+        moving: &moving,
+        spans: &spans,
+        panels: &panels,
+        unset: &unset,
+    };
     canvas::write(&options.svg, (WIDTH, line.height()), |root| line.draw(root))?;
     Ok(Report {
         fits: Some(Fits::new(tags.places(), options.block.places.into(), text)),
@@ -57,6 +66,8 @@ struct Line<'a> {
     text: &'a Text,
     duration: i32,
     marks: &'a Marks,
+    /// Where there may be marks.
+    moving: &'a [Range],
     spans: &'a [KaraokeSpan],
     panels: &'a [Panel],
     unset: &'a [&'static str],
@@ -99,7 +110,8 @@ impl Line<'_> {
         word(area, &canvas::cut(&self.text.text, 92), (20, 22), text)?;
         let marks = grouped(ranges::total(&self.marks.ranges));
         let ranges = ranges::listed(&self.marks.ranges, 8);
-        let line = format!("{} ms; {marks} marks: {ranges}", grouped(self.duration));
+        let more = if self.marks.whole { "" } else { " and on" };
+        let line = format!("{} ms; {marks} marks: {ranges}{more}", grouped(self.duration));
         word(area, &line, (20, 44), Font::new(12, FAINT))
     }
 
@@ -133,7 +145,7 @@ impl Line<'_> {
         };
         let sung: Vec<Range> = self.spans.iter().map(karaoke::moves).filter(|range| range.len() > 0).collect();
         chart.draw_series(sung.iter().map(|range| shade(range, SINGING)))?;
-        chart.draw_series(self.marks.ranges.iter().map(|range| shade(range, MARKED)))?;
+        chart.draw_series(self.moving.iter().map(|range| shade(range, MARKED)))?;
         Ok(chart)
     }
 
