@@ -77,6 +77,16 @@ fad-1000 : opacityAt 1000 (and (Fad 200 300) none) ≡ 0
 unfolding evaluateAt applyTags applyOwn toBits
 fad-1000 = refl
 
+-- `\fs20\t(0,1000,\t(0,1000,\fs40))`: at 500 the inner \t has come to 30, and the outer is half way from 20 to that
+nested : sizeAt 500 (and (Fs (whole 20)) (and (T (times (pos 0) (pos 1000)) one (and (T (times (pos 0) (pos 1000)) one (and (Fs (whole 40)) none)) none)) none)) ≡ toBits binary32 (whole 25)
+unfolding evaluateAt applyTags applyOwn toBits ofInt
+nested = refl
+
+-- `\fs1000000\t(0,1000,\fs0.1)`: at 1000 it has come to 0.125, not to 0.1, as the way from one to the other is rounded
+end-mixed : sizeAt 1000 (and (Fs (whole 1000000)) (and (T (times (pos 0) (pos 1000)) one (and (Fs (ofBits binary32 0x3DCCCCCD)) none)) none)) ≡ 0x3E000000
+unfolding evaluateAt applyTags applyOwn toBits ofInt ofBits
+end-mixed = refl
+
 -- milliseconds above 2^24 are rounded to f32 before they are divided: the quotient of the numbers themselves would be 3EAAAAAB
 times-rounded : toBits binary32 (quotient (pos 16777217) (pos 50331651)) ≡ 0x3EAAAAAA
 unfolding quotient toBits ofInt
