@@ -240,7 +240,7 @@ impl Line<'_> {
         }
         let column = WIDTH - RIGHT + 14;
         word(area, "marks", (column, 16), Font::new(13, INK))?;
-        word(area, "milliseconds", (column, MARKS - AXIS + 10), axis)
+        word(area, "in milliseconds", (column, 33), axis)
     }
 }
 

@@ -323,11 +323,14 @@ fn bad_arguments() {
 
 #[test]
 fn help_with_an_example() {
-    insta::assert_snapshot!(run(&["--help"]));
+    let whole = run(&["--help"]);
+    assert!(whole.starts_with("status 0\n") && whole.contains("Usage: hannuvel [OPTIONS] <COMMAND>"), "{whole}");
+    assert!(whole.contains("Exit status: 0 answered, 1 refused, 2 "), "{whole}");
     for command in ["block", "timeline", "drawing", "redraws"] {
         let help = run(&[command, "--help"]);
         assert!(help.starts_with("status 0\n"), "{help}");
         assert!(help.contains(&format!("Example:\n  hannuvel {command} ")), "{help}");
+        assert!(whole.contains(&format!("\n  hannuvel {command} ")), "{whole}");
     }
     assert_eq!(run(&["--version"]), "status 0\nhannuvel 0.1.0\n");
 }
