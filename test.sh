@@ -17,7 +17,7 @@ export CARGO_TARGET_DIR=$PWD/oracle/target
 unset HANNUVEL_ARCHIVES
 
 # Without its tools a part would go untested, so this is a failure and not a reason to pass over it.
-for tool in rt cargo rustc python3 nm gcc; do
+for tool in rt cargo rustc python3 nm gcc script; do
     command -v "$tool" >/dev/null || fail "$tool is not on PATH"
 done
 
@@ -48,8 +48,10 @@ if listed hannuvel; then
     say "the example in C"
     examples/c/check.sh || fail "examples/c/check.sh ended with status $?"
     say "the crate in Rust"
-    (cd host && CARGO_TARGET_DIR=$PWD/target cargo test --offline --release -p hannuvel) ||
-        fail "cargo test of the crate in Rust ended with status $?"
+    host/cargo.sh test --release -p hannuvel || fail "cargo test of the crate in Rust ended with status $?"
+    say "the desk tool"
+    INSTA_UPDATE=no host/cargo.sh test --release -p hannuvel-desk ||
+        fail "cargo test of the desk tool ended with status $?"
 else
     say "NOT RUN: crates.txt has no hannuvel, so there is no C interface to compare"
 fi
