@@ -3,12 +3,27 @@ ghost use mathlib.Core.Path.{_≡_};
 ghost use Prim.Native.Nat.{_<_};
 ghost use Rattle.table.specs.Inner.{Inside};
 ghost use Rattle.tag.specs.Tag.{times};
-ghost use Rattle.state.specs.Apply.{applyTags};
+ghost use Rattle.tag.specs.Decode.{tagsOf};
+ghost use Rattle.state.specs.Apply.{applyTags, evaluateAt};
 ghost use Rattle.evaluate.specs.Inner.{tagsAt, insideOf, aroundOf};
 ghost use Rattle.evaluate.specs.Evaluate.{evaluated};
-use apply::Group;
+use apply::values::both;
+use apply::values::byte;
+use apply::values::numpad;
+use apply::values::some_bool;
+use apply::values::some_f32;
+use apply::values::some_name;
+use apply::values::some_pair;
+use apply::values::some_part;
+use apply::values::some_rect;
+use apply::values::some_rgb;
+use apply::values::some_u8;
+use apply::values::some_u16;
+use apply::values::with_x;
+use apply::values::with_y;
 use refusal::Checked;
 use refusal::Refusal;
+use state::OptI32;
 use state::RenderState;
 use tag::Record;
 
@@ -42,7 +57,8 @@ fn apply_t(
     ensures { λ r. ⌜ r ≡ aroundOf t dur (now (table .entry)) at left (times start end) a ⌝ }
 {
     let r = table::record_at(table, at);
-    let b = apply_tags(table, at + 1, inside(r, left - 1), a, t, dur);
+    let words = table;
+    let b = apply_tags(words, at + 1, inside(r, left - 1), a, t, dur);
     let k = mix::factor(r.w4, start, end, t);
     let a_always = a.always;
     let b_always = b.always;
@@ -97,73 +113,312 @@ fn apply_tags(
     let mut left = count;
     while 0 < left {
         let r = table::record_at(table, at);
-        match apply::group_of(r.kind) {
-            Group::Nothing => {
-                at += 1;
-                left -= 1;
-            }
-            Group::Always => {
+        let kind = r.kind;
+        match kind {
+            1 => {
                 let s = post.always;
-                post.always = apply::apply_always(s, r, t, dur);
+                post.always = apply::fad(s, table::record_at(table, at), t, dur);
                 at += 1;
                 left -= 1;
             }
-            Group::Places => {
+            2 => {
+                let s = post.always;
+                post.always = apply::fade(s, table::record_at(table, at), t);
+                at += 1;
+                left -= 1;
+            }
+            3 => {
                 let s = post.places;
-                post.places = apply::apply_places(s, r, t, dur);
+                post.places = set::set_translate(s, some_pair(r.w1, r.w2));
                 at += 1;
                 left -= 1;
             }
-            Group::Clips => {
-                let s = post.clips;
-                post.clips = apply::apply_clips(s, r);
+            4 => {
+                let s = post.places;
+                post.places = set::set_translate(
+                    s,
+                    apply::moved(table::record_at(table, at), t, dur),
+                );
                 at += 1;
                 left -= 1;
             }
-            Group::Sizes => {
-                let s = post.sizes;
-                post.sizes = apply::apply_sizes(s, r);
+            5 => {
+                let s = post.always;
+                post.always = set::set_rotate_radians(s, apply::radians(r.w1));
                 at += 1;
                 left -= 1;
             }
-            Group::Colors => {
+            6 => {
+                let s = post.always;
+                post.always = set::set_blur_sigma(s, apply::above_zero(r.w1));
+                at += 1;
+                left -= 1;
+            }
+            7 => {
+                let s = post.always;
+                post.always = apply::scale_x(s, r.w1);
+                at += 1;
+                left -= 1;
+            }
+            8 => {
+                let s = post.always;
+                post.always = apply::scale_y(s, r.w1);
+                at += 1;
+                left -= 1;
+            }
+            9 => {
                 let s = post.colors;
-                post.colors = apply::apply_colors(s, r);
+                post.colors = set::set_primary_color(s, some_rgb(table::record_at(table, at)));
                 at += 1;
                 left -= 1;
             }
-            Group::Alphas => {
-                let s = post.alphas;
-                post.alphas = apply::apply_alphas(s, r);
+            10 => {
+                let s = post.sizes;
+                post.sizes = set::set_font_size(s, some_f32(r.w1));
                 at += 1;
                 left -= 1;
             }
-            Group::Line => {
+            11 => {
+                let s = post.clips;
+                post.clips = set::set_clip_rect(s, some_rect(table::record_at(table, at)));
+                at += 1;
+                left -= 1;
+            }
+            12 => {
                 let s = post.line;
-                post.line = apply::apply_line(s, r);
+                post.line = set::set_clip_drawing(s, some_part(r.w1, r.w2));
                 at += 1;
                 left -= 1;
             }
-            Group::Font => {
+            13 => {
+                let s = post.always;
+                post.always = set::set_rotate_x_radians(s, apply::radians(r.w1));
+                at += 1;
+                left -= 1;
+            }
+            14 => {
+                let s = post.always;
+                post.always = set::set_rotate_y_radians(s, apply::radians(r.w1));
+                at += 1;
+                left -= 1;
+            }
+            15 => {
+                let s = post.line;
+                post.line = set::set_pivot(s, some_pair(r.w1, r.w2));
+                at += 1;
+                left -= 1;
+            }
+            16 => {
+                let s = post.places;
+                post.places = set::set_border(s, both(apply::above_zero(r.w1)));
+                at += 1;
+                left -= 1;
+            }
+            17 => {
+                let s = post.places;
+                let border = s.border;
+                post.places = set::set_border(s, with_x(border, apply::above_zero(r.w1)));
+                at += 1;
+                left -= 1;
+            }
+            18 => {
+                let s = post.places;
+                let border = s.border;
+                post.places = set::set_border(s, with_y(border, apply::above_zero(r.w1)));
+                at += 1;
+                left -= 1;
+            }
+            19 => {
+                let s = post.places;
+                post.places = set::set_shadow(s, both(apply::above_zero(r.w1)));
+                at += 1;
+                left -= 1;
+            }
+            20 => {
+                let s = post.places;
+                let shadow = s.shadow;
+                post.places = set::set_shadow(s, with_x(shadow, float::f32_of_word(r.w1)));
+                at += 1;
+                left -= 1;
+            }
+            21 => {
+                let s = post.places;
+                let shadow = s.shadow;
+                post.places = set::set_shadow(s, with_y(shadow, float::f32_of_word(r.w1)));
+                at += 1;
+                left -= 1;
+            }
+            22 => {
+                let s = post.always;
+                post.always = set::set_be_strength(s, byte(r.w1));
+                at += 1;
+                left -= 1;
+            }
+            23 => {
+                let s = post.always;
+                post.always = apply::shear_x(s, r.w1);
+                at += 1;
+                left -= 1;
+            }
+            24 => {
+                let s = post.always;
+                post.always = apply::shear_y(s, r.w1);
+                at += 1;
+                left -= 1;
+            }
+            25 => {
+                let s = post.clips;
+                post.clips = set::set_iclip_rect(s, some_rect(table::record_at(table, at)));
+                at += 1;
+                left -= 1;
+            }
+            26 => {
+                let s = post.line;
+                post.line = set::set_iclip_drawing(s, some_part(r.w1, r.w2));
+                at += 1;
+                left -= 1;
+            }
+            27 => {
+                let s = post.colors;
+                post.colors = set::set_secondary_color(s, some_rgb(table::record_at(table, at)));
+                at += 1;
+                left -= 1;
+            }
+            28 => {
+                let s = post.colors;
+                post.colors = set::set_outline_color(s, some_rgb(table::record_at(table, at)));
+                at += 1;
+                left -= 1;
+            }
+            29 => {
+                let s = post.colors;
+                post.colors = set::set_shadow_color(s, some_rgb(table::record_at(table, at)));
+                at += 1;
+                left -= 1;
+            }
+            30 => {
+                post.alphas = apply::all_alphas(r.w1);
+                at += 1;
+                left -= 1;
+            }
+            31 => {
+                let s = post.alphas;
+                post.alphas = set::set_primary_alpha(s, some_u8(r.w1));
+                at += 1;
+                left -= 1;
+            }
+            32 => {
+                let s = post.alphas;
+                post.alphas = set::set_secondary_alpha(s, some_u8(r.w1));
+                at += 1;
+                left -= 1;
+            }
+            33 => {
+                let s = post.alphas;
+                post.alphas = set::set_outline_alpha(s, some_u8(r.w1));
+                at += 1;
+                left -= 1;
+            }
+            34 => {
+                let s = post.alphas;
+                post.alphas = set::set_shadow_alpha(s, some_u8(r.w1));
+                at += 1;
+                left -= 1;
+            }
+            35 => {
+                let s = post.sizes;
+                post.sizes = set::set_letter_spacing(s, some_f32(r.w1));
+                at += 1;
+                left -= 1;
+            }
+            36 => {
+                let s = post.line;
+                post.line = apply::wrapped(s, r.w1);
+                at += 1;
+                left -= 1;
+            }
+            37 => {
+                let s = post.line;
+                post.line = apply::aligned(s, r.w1);
+                at += 1;
+                left -= 1;
+            }
+            38 => {
+                let s = post.line;
+                post.line = apply::aligned(s, numpad(r.w1));
+                at += 1;
+                left -= 1;
+            }
+            39 => {
                 let s = post.font;
-                post.font = apply::apply_font(s, r);
+                post.font = set::set_font_name(s, some_name(table::record_at(table, at)));
                 at += 1;
                 left -= 1;
             }
-            Group::Reset => {
-                post = apply::reset(r);
+            40 => {
+                let s = post.font;
+                post.font = set::set_font_encoding(s, some_u8(r.w1));
                 at += 1;
                 left -= 1;
             }
-            Group::T => {
+            41 => {
+                post = apply::reset(table::record_at(table, at));
+                at += 1;
+                left -= 1;
+            }
+            42 => {
+                let s = post.font;
+                post.font = set::set_bold_weight(s, some_u16(r.w1));
+                at += 1;
+                left -= 1;
+            }
+            43 => {
+                let s = post.font;
+                post.font = set::set_italic(s, some_bool(r.w1));
+                at += 1;
+                left -= 1;
+            }
+            44 => {
+                let s = post.font;
+                post.font = set::set_underline(s, some_bool(r.w1));
+                at += 1;
+                left -= 1;
+            }
+            45 => {
+                let s = post.font;
+                post.font = set::set_strikeout(s, some_bool(r.w1));
+                at += 1;
+                left -= 1;
+            }
+            46 => {
+                at += 1;
+                left -= 1;
+            }
+            47 => {
+                let s = post.sizes;
+                post.sizes = set::set_drawing_baseline_offset(
+                    s,
+                    OptI32::Some(float::of_word(r.w1)),
+                );
+                at += 1;
+                left -= 1;
+            }
+            48 => {
+                let s = post.line;
+                post.line = set::set_drawing_scale(s, some_u8(r.w1));
+                at += 1;
+                left -= 1;
+            }
+            49 => {
                 let n = 1 + inside(r, left - 1);
+                let words = table;
                 if r.w1 == 0 {
-                    post = apply_t(table, at, left, 0, dur, post, t, dur);
+                    post = apply_t(words, at, left, 0, dur, post, t, dur);
                     at += n;
                     left -= n;
                 } else {
                     post = apply_t(
-                        table,
+                        words,
                         at,
                         left,
                         float::of_word(r.w2),
@@ -176,6 +431,348 @@ fn apply_tags(
                     left -= n;
                 }
             }
+            _ => {
+                at += 1;
+                left -= 1;
+            }
+        }
+    }
+    post
+}
+
+// All tags of a table from no override on: the loop of `apply_tags` over the kinds themselves, with the state in one place. A tag
+// stores its field and nothing else.
+fn evaluate_tags(table: &[u32], t: i32, dur: i32) -> RenderState
+    ensures { λ r. ⌜ r ≡ evaluateAt t dur (tagsOf (now (table .entry))) ⌝ }
+{
+    let mut post = state::identity();
+    let mut at = 0;
+    let mut left = table.len() / 8;
+    while 0 < left {
+        let r = table::record_at(table, at);
+        let kind = r.kind;
+        match kind {
+            1 => {
+                let s = post.always;
+                post.always = apply::fad(s, table::record_at(table, at), t, dur);
+                at += 1;
+                left -= 1;
+            }
+            2 => {
+                let s = post.always;
+                post.always = apply::fade(s, table::record_at(table, at), t);
+                at += 1;
+                left -= 1;
+            }
+            3 => {
+                let s = post.places;
+                post.places = set::set_translate(s, some_pair(r.w1, r.w2));
+                at += 1;
+                left -= 1;
+            }
+            4 => {
+                let s = post.places;
+                post.places = set::set_translate(
+                    s,
+                    apply::moved(table::record_at(table, at), t, dur),
+                );
+                at += 1;
+                left -= 1;
+            }
+            5 => {
+                let s = post.always;
+                post.always = set::set_rotate_radians(s, apply::radians(r.w1));
+                at += 1;
+                left -= 1;
+            }
+            6 => {
+                let s = post.always;
+                post.always = set::set_blur_sigma(s, apply::above_zero(r.w1));
+                at += 1;
+                left -= 1;
+            }
+            7 => {
+                let s = post.always;
+                post.always = apply::scale_x(s, r.w1);
+                at += 1;
+                left -= 1;
+            }
+            8 => {
+                let s = post.always;
+                post.always = apply::scale_y(s, r.w1);
+                at += 1;
+                left -= 1;
+            }
+            9 => {
+                let s = post.colors;
+                post.colors = set::set_primary_color(s, some_rgb(table::record_at(table, at)));
+                at += 1;
+                left -= 1;
+            }
+            10 => {
+                let s = post.sizes;
+                post.sizes = set::set_font_size(s, some_f32(r.w1));
+                at += 1;
+                left -= 1;
+            }
+            11 => {
+                let s = post.clips;
+                post.clips = set::set_clip_rect(s, some_rect(table::record_at(table, at)));
+                at += 1;
+                left -= 1;
+            }
+            12 => {
+                let s = post.line;
+                post.line = set::set_clip_drawing(s, some_part(r.w1, r.w2));
+                at += 1;
+                left -= 1;
+            }
+            13 => {
+                let s = post.always;
+                post.always = set::set_rotate_x_radians(s, apply::radians(r.w1));
+                at += 1;
+                left -= 1;
+            }
+            14 => {
+                let s = post.always;
+                post.always = set::set_rotate_y_radians(s, apply::radians(r.w1));
+                at += 1;
+                left -= 1;
+            }
+            15 => {
+                let s = post.line;
+                post.line = set::set_pivot(s, some_pair(r.w1, r.w2));
+                at += 1;
+                left -= 1;
+            }
+            16 => {
+                let s = post.places;
+                post.places = set::set_border(s, both(apply::above_zero(r.w1)));
+                at += 1;
+                left -= 1;
+            }
+            17 => {
+                let s = post.places;
+                let border = s.border;
+                post.places = set::set_border(s, with_x(border, apply::above_zero(r.w1)));
+                at += 1;
+                left -= 1;
+            }
+            18 => {
+                let s = post.places;
+                let border = s.border;
+                post.places = set::set_border(s, with_y(border, apply::above_zero(r.w1)));
+                at += 1;
+                left -= 1;
+            }
+            19 => {
+                let s = post.places;
+                post.places = set::set_shadow(s, both(apply::above_zero(r.w1)));
+                at += 1;
+                left -= 1;
+            }
+            20 => {
+                let s = post.places;
+                let shadow = s.shadow;
+                post.places = set::set_shadow(s, with_x(shadow, float::f32_of_word(r.w1)));
+                at += 1;
+                left -= 1;
+            }
+            21 => {
+                let s = post.places;
+                let shadow = s.shadow;
+                post.places = set::set_shadow(s, with_y(shadow, float::f32_of_word(r.w1)));
+                at += 1;
+                left -= 1;
+            }
+            22 => {
+                let s = post.always;
+                post.always = set::set_be_strength(s, byte(r.w1));
+                at += 1;
+                left -= 1;
+            }
+            23 => {
+                let s = post.always;
+                post.always = apply::shear_x(s, r.w1);
+                at += 1;
+                left -= 1;
+            }
+            24 => {
+                let s = post.always;
+                post.always = apply::shear_y(s, r.w1);
+                at += 1;
+                left -= 1;
+            }
+            25 => {
+                let s = post.clips;
+                post.clips = set::set_iclip_rect(s, some_rect(table::record_at(table, at)));
+                at += 1;
+                left -= 1;
+            }
+            26 => {
+                let s = post.line;
+                post.line = set::set_iclip_drawing(s, some_part(r.w1, r.w2));
+                at += 1;
+                left -= 1;
+            }
+            27 => {
+                let s = post.colors;
+                post.colors = set::set_secondary_color(s, some_rgb(table::record_at(table, at)));
+                at += 1;
+                left -= 1;
+            }
+            28 => {
+                let s = post.colors;
+                post.colors = set::set_outline_color(s, some_rgb(table::record_at(table, at)));
+                at += 1;
+                left -= 1;
+            }
+            29 => {
+                let s = post.colors;
+                post.colors = set::set_shadow_color(s, some_rgb(table::record_at(table, at)));
+                at += 1;
+                left -= 1;
+            }
+            30 => {
+                post.alphas = apply::all_alphas(r.w1);
+                at += 1;
+                left -= 1;
+            }
+            31 => {
+                let s = post.alphas;
+                post.alphas = set::set_primary_alpha(s, some_u8(r.w1));
+                at += 1;
+                left -= 1;
+            }
+            32 => {
+                let s = post.alphas;
+                post.alphas = set::set_secondary_alpha(s, some_u8(r.w1));
+                at += 1;
+                left -= 1;
+            }
+            33 => {
+                let s = post.alphas;
+                post.alphas = set::set_outline_alpha(s, some_u8(r.w1));
+                at += 1;
+                left -= 1;
+            }
+            34 => {
+                let s = post.alphas;
+                post.alphas = set::set_shadow_alpha(s, some_u8(r.w1));
+                at += 1;
+                left -= 1;
+            }
+            35 => {
+                let s = post.sizes;
+                post.sizes = set::set_letter_spacing(s, some_f32(r.w1));
+                at += 1;
+                left -= 1;
+            }
+            36 => {
+                let s = post.line;
+                post.line = apply::wrapped(s, r.w1);
+                at += 1;
+                left -= 1;
+            }
+            37 => {
+                let s = post.line;
+                post.line = apply::aligned(s, r.w1);
+                at += 1;
+                left -= 1;
+            }
+            38 => {
+                let s = post.line;
+                post.line = apply::aligned(s, numpad(r.w1));
+                at += 1;
+                left -= 1;
+            }
+            39 => {
+                let s = post.font;
+                post.font = set::set_font_name(s, some_name(table::record_at(table, at)));
+                at += 1;
+                left -= 1;
+            }
+            40 => {
+                let s = post.font;
+                post.font = set::set_font_encoding(s, some_u8(r.w1));
+                at += 1;
+                left -= 1;
+            }
+            41 => {
+                post = apply::reset(table::record_at(table, at));
+                at += 1;
+                left -= 1;
+            }
+            42 => {
+                let s = post.font;
+                post.font = set::set_bold_weight(s, some_u16(r.w1));
+                at += 1;
+                left -= 1;
+            }
+            43 => {
+                let s = post.font;
+                post.font = set::set_italic(s, some_bool(r.w1));
+                at += 1;
+                left -= 1;
+            }
+            44 => {
+                let s = post.font;
+                post.font = set::set_underline(s, some_bool(r.w1));
+                at += 1;
+                left -= 1;
+            }
+            45 => {
+                let s = post.font;
+                post.font = set::set_strikeout(s, some_bool(r.w1));
+                at += 1;
+                left -= 1;
+            }
+            46 => {
+                at += 1;
+                left -= 1;
+            }
+            47 => {
+                let s = post.sizes;
+                post.sizes = set::set_drawing_baseline_offset(
+                    s,
+                    OptI32::Some(float::of_word(r.w1)),
+                );
+                at += 1;
+                left -= 1;
+            }
+            48 => {
+                let s = post.line;
+                post.line = set::set_drawing_scale(s, some_u8(r.w1));
+                at += 1;
+                left -= 1;
+            }
+            49 => {
+                let n = 1 + inside(r, left - 1);
+                let words = table;
+                let flag = r.w1;
+                if flag == 0 {
+                    post = apply_t(words, at, left, 0, dur, post, t, dur);
+                    at += n;
+                    left -= n;
+                } else {
+                    post = apply_t(
+                        words,
+                        at,
+                        left,
+                        float::of_word(r.w2),
+                        float::of_word(r.w3),
+                        post,
+                        t,
+                        dur,
+                    );
+                    at += n;
+                    left -= n;
+                }
+            }
+            _ => {
+                at += 1;
+                left -= 1;
+            }
         }
     }
     post
@@ -187,13 +784,6 @@ pub fn evaluate_at(table: &[u32], t: i32, dur: i32) -> Evaluated
 {
     match table::check_call(table, t, dur) {
         Checked::Bad(r) => Evaluated::Refused(r),
-        Checked::Good => Evaluated::State(apply_tags(
-            table,
-            0,
-            table.len() / 8,
-            state::identity(),
-            t,
-            dur,
-        )),
+        Checked::Good => Evaluated::State(evaluate_tags(table, t, dur)),
     }
 }

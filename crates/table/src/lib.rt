@@ -298,7 +298,8 @@ fn fault(table: &[u32], from: usize, count: usize, deep: usize) -> Checked
         left -= 1;
         if kind == 49 {
             let n = r.w5 as usize;
-            let inner = fault(table, at, n, deep - 1);
+            let words = table;
+            let inner = fault(words, at, n, deep - 1);
             if let Checked::Bad(x) = inner {
                 return Checked::Bad(x);
             }
