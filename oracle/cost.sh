@@ -22,13 +22,13 @@ one() { # KIND SIZE SIDE
 }
 sizes() { # KIND
     case $1 in
-    evaluate-* | marks-*) echo 1 10 100 1000 ;;
+    evaluate-* | marks-* | spans*) echo 1 10 100 1000 ;;
     *) echo 30 60 140 1024 12288 ;;
     esac
 }
 
 texts="typical flat nested unclosed lines spline clip scaled"
-tables="evaluate-flat evaluate-nested marks-flat marks-nested"
+tables="evaluate-flat evaluate-nested marks-flat marks-nested spans spans-nested"
 printf '%-15s %6s %12s %12s %10s %10s\n' kind size library rust lib/size rust/lib
 for kind in "${@:-$texts $tables}"; do
     for k in $kind; do

@@ -75,7 +75,7 @@ fn deep() -> Vec<String> {
 
 /// Tables that were read before, evaluated or asked for the next mark.
 fn line_rows() -> Vec<Row> {
-    use Call::{Evaluate, NextMark};
+    use Call::{Evaluate, NextMark, Spans};
     let (typical, scripts) = (texts::typical(), texts::scripts());
     let flat = vec![texts::flat(1_000)];
     let fast = vec![texts::accelerated(1_000)];
@@ -91,8 +91,14 @@ fn line_rows() -> Vec<Row> {
         ),
         lines("evaluate many accelerated \\t", Evaluate, fast),
         lines("next mark of typical lines", NextMark, typical),
-        lines("next mark of script lines", NextMark, scripts),
+        lines("next mark of script lines", NextMark, scripts.clone()),
         lines("next mark of a thousand tags", NextMark, flat),
+        lines("spans of script lines", Spans, scripts),
+        lines(
+            "spans of a thousand beats",
+            Spans,
+            vec![texts::beats(1_000)],
+        ),
     ]
 }
 

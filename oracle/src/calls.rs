@@ -16,6 +16,7 @@ pub enum Call {
     Clip,
     Evaluate,
     NextMark,
+    Spans,
 }
 
 /// Words of a table or a path with room for every record.
@@ -93,6 +94,7 @@ pub fn rust(call: Call, inputs: &[Input], times: u32) {
             input.cue.evaluate_at(input.t, input.duration)
         }),
         Call::NextMark => each(inputs, times, next_change),
+        Call::Spans => each(inputs, times, |input| input.cue.karaoke_spans()),
     }
 }
 
@@ -111,7 +113,7 @@ fn next_change(input: &Input) -> Option<i32> {
 pub fn ours(call: Call, inputs: &[Input], times: u32, lent: &mut [u32]) -> Option<u64> {
     let (words, count) = (lent.as_mut_ptr(), lent.len());
     let mut answer = 0;
-    // SAFETY, for all six: the pointers and lengths are those of slices that outlive the calls.
+    // SAFETY, for all seven: the pointers and lengths are those of slices that outlive the calls.
     match call {
         Call::Overrides => {
             let call = library::hannuvel_parse_overrides()?;
@@ -149,6 +151,12 @@ pub fn ours(call: Call, inputs: &[Input], times: u32, lent: &mut [u32]) -> Optio
             each(inputs, times, |line| {
                 let table = &line.table;
                 answer = unsafe { call(table.as_ptr(), table.len(), line.t, line.duration) }
+            });
+        }
+        Call::Spans => {
+            let call = library::hannuvel_karaoke_spans()?;
+            each(inputs, times, |Input { table, .. }| {
+                answer = unsafe { call(table.as_ptr(), table.len(), words, count) }
             });
         }
     }

@@ -2,12 +2,12 @@
 //! counts the instructions of.
 
 use crate::calls::{self, Call, Input};
-use crate::texts::{DEEP, MIXED, flat, nested, repeated};
+use crate::texts::{DEEP, MIXED, beats, flat, nested, repeated};
 
 const USAGE: &str = "\
 usage: compare cost KIND SIZE SIDE TIMES
 KIND: typical, flat, nested, unclosed, lines, spline, clip, scaled (SIZE in bytes),
-      evaluate-flat, evaluate-nested, marks-flat, marks-nested (SIZE in records)
+      evaluate-flat, evaluate-nested, marks-flat, marks-nested, spans, spans-nested (SIZE in records)
 SIDE: library, rust";
 
 /// `None`: the words are no such command, or the library lacks the call.
@@ -78,6 +78,8 @@ fn line_of(kind: &str, records: usize) -> Option<(Call, String, i32)> {
         "evaluate-nested" => (Call::Evaluate, nested(records), 50),
         "marks-flat" => (Call::NextMark, flat(records), 400),
         "marks-nested" => (Call::NextMark, nested(records), -20),
+        "spans" => (Call::Spans, beats(records), 0),
+        "spans-nested" => (Call::Spans, nested(records), 0),
         _ => return None,
     })
 }
@@ -103,7 +105,9 @@ mod tests {
 
     #[test]
     fn the_rust_takes_every_kind_of_line() {
-        for kind in words("evaluate-flat evaluate-nested marks-flat marks-nested") {
+        for kind in
+            words("evaluate-flat evaluate-nested marks-flat marks-nested spans spans-nested")
+        {
             for records in [1, 10, 100, 1_000] {
                 assert_eq!(kind_of(&kind, records).unwrap().1[0].records(), records);
             }

@@ -8,6 +8,7 @@ use crate::generate::drawing::drawing;
 use crate::generate::limits::faulty_tables;
 use crate::generate::table::well_formed;
 use crate::random::Random;
+use crate::rule::refusal::MOST_BYTES;
 use crate::rule::table::has_transition;
 use crate::suites::source::Source;
 use crate::texts::{self, DEEP, DRAWN_MIX, MIXED, NUMERALS, longest};
@@ -24,6 +25,9 @@ pub struct Inputs {
     pub flat_tables: Vec<Vec<u32>>,
     pub nested_tables: Vec<Vec<u32>>,
     pub words: Vec<u32>,
+    /// A block and a name that are as long as may be.
+    pub block: Vec<u8>,
+    pub own: Vec<u8>,
 }
 
 impl Inputs {
@@ -42,6 +46,8 @@ impl Inputs {
             flat_tables,
             nested_tables,
             words: vec![0; WORDS],
+            block: vec![b'a'; MOST_BYTES],
+            own: vec![b'b'; MOST_BYTES],
         }
     }
 }
@@ -165,6 +171,37 @@ pub fn lines(tables: &[Vec<u32>], words: &mut [u32]) -> Vec<Arguments> {
         let (address, count) = (table.as_ptr() as u64, table.len() as u64);
         let at = move |t: i32| [address, count, t as u64, 1_000, state, 0, 0, 0];
         [-1, 150, 450, 1_000, i32::MAX].map(at)
+    });
+    inputs.collect()
+}
+
+/// Each table, with room for every span and with none.
+pub fn spans(tables: &[Vec<u32>], words: &mut [u32]) -> Vec<Arguments> {
+    let list = words.as_mut_ptr() as u64;
+    let inputs = tables.iter().flat_map(|table| {
+        let (address, count) = (table.as_ptr() as u64, table.len() as u64);
+        [words.len() as u64, 0].map(|places| [address, count, list, places, 0, 0, 0, 0])
+    });
+    inputs.collect()
+}
+
+/// Spans of every order, at instants before, amid and behind them, and at one that is refused.
+pub fn progress() -> Vec<Arguments> {
+    let ends = [0, 500, 750, 1 << 31, u64::from(u32::MAX)];
+    let spans = ends
+        .into_iter()
+        .flat_map(move |start| ends.map(|end| (start, end)));
+    let inputs = spans.flat_map(|(start, end)| {
+        [-1, 600, i32::MAX].map(|t: i32| [start, end, t as u64, 0, 0, 0, 0, 0])
+    });
+    inputs.collect()
+}
+
+/// The lines again, as tables of a block, with an own name.
+pub fn styles(lines: &[Arguments], block: &[u8], own: &[u8]) -> Vec<Arguments> {
+    let ([block, bytes], [own, letters]) = (bytes_of(block), bytes_of(own));
+    let inputs = lines.iter().map(|&[table, count, t, duration, ..]| {
+        [table, count, t, duration, block, bytes, own, letters]
     });
     inputs.collect()
 }

@@ -4,7 +4,7 @@ mod inputs;
 mod painted;
 
 use crate::library;
-use inputs::{Inputs, clips, drawings, lines, reading};
+use inputs::{Inputs, clips, drawings, lines, progress, reading, spans, styles};
 use painted::{Arguments, Painted};
 
 const KB: usize = 1_024;
@@ -33,6 +33,13 @@ fn rows(inputs: &mut Inputs) -> Vec<Row> {
     let mark = library::hannuvel_next_mark().map(|call| call as *const ());
     let flat_lines = lines(&inputs.flat_tables, &mut inputs.words);
     let nested_lines = lines(&inputs.nested_tables, &mut inputs.words);
+    let karaoke = library::hannuvel_karaoke_spans().map(|call| call as *const ());
+    let flat_spans = spans(&inputs.flat_tables, &mut inputs.words);
+    let nested_spans = spans(&inputs.nested_tables, &mut inputs.words);
+    let passed = library::hannuvel_progress().map(|call| call as *const ());
+    let style = library::hannuvel_style_in_force().map(|call| call as *const ());
+    let flat_styles = styles(&flat_lines, &inputs.block, &inputs.own);
+    let nested_styles = styles(&nested_lines, &inputs.block, &inputs.own);
     let row = |name, function, inputs: &[Arguments], most| Row {
         name,
         function,
@@ -55,6 +62,21 @@ fn rows(inputs: &mut Inputs) -> Vec<Row> {
         ),
         row("next_mark, no \\t", mark, &flat_lines, KB),
         row("next_mark, to eight \\t", mark, &nested_lines, 2 * KB),
+        row("karaoke_spans, no \\t", karaoke, &flat_spans, KB),
+        row(
+            "karaoke_spans, to eight \\t",
+            karaoke,
+            &nested_spans,
+            2 * KB,
+        ),
+        row("progress", passed, &progress(), KB),
+        row("style_in_force, no \\t", style, &flat_styles, 16 * KB),
+        row(
+            "style_in_force, to eight \\t",
+            style,
+            &nested_styles,
+            16 * KB,
+        ),
     ]
 }
 

@@ -59,6 +59,12 @@ pub fn flat(records: usize) -> String {
     FLAT.iter().cycle().take(records).copied().collect()
 }
 
+/// So many beats, one behind the other.
+pub fn beats(records: usize) -> String {
+    let beats = ["\\k12", "\\kf25", "\\ko9"].iter().cycle().take(records);
+    beats.copied().collect()
+}
+
 /// Numerals of up to nine and nine digits.
 pub const NUMERALS: &str = "\\pos(123456789.987654321,-640.123456789)\\fscx98765432.1\
     \\pos(0.000123456,999999999)\\fscx100.123456789";
