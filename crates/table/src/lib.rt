@@ -4,13 +4,13 @@ use refusal::Refusal;
 use tag::Record;
 ghost use mathlib.Core.Path.{_≡_};
 ghost use mathlib.Core.Bool.{true};
-ghost use Prim.Native.Nat.{_+_, _*_, _≤_};
+ghost use Prim.Native.Nat.{_+_, _-_, _*_, _≤_, _<_};
 ghost use lib.Dec.{eqb};
 ghost use lib.ListN.{length};
 ghost use Rattle.scan.specs.Scan.{both, within as withinOf};
 ghost use Rattle.tag.specs.Range.{unused, float, range, time, weight, free, timeWord, partFits, timesFit, wordFits, inRange};
-ghost use Rattle.tag.specs.WellFormed.{fault as faultOf, excess as excessOf, tableGround};
-ghost use Rattle.table.specs.Inner.{recordIn, part, Inside, wordsFit, oneFits, twoFit, fontParts, stylePart, stands as standsOf};
+ghost use Rattle.tag.specs.WellFormed.{first, fault as faultOf, excess as excessOf, tableGround};
+ghost use Rattle.table.specs.Inner.{recordIn, part, Inside, wordsFit, oneFits, twoFit, fontParts, stylePart, ofKind, stands as standsOf, faultOfT};
 ghost use Rattle.table.specs.Ground.{inTime, timeGround, callGround};
 
 // The record with the index `at`.
@@ -233,12 +233,11 @@ fn t_fits(r: Record) -> bool
     )
 }
 
-// Whether every word of a record is in the range of its kind. Kinds that follow one another stand in two arms: of a run in one arm
-// comparisons would be made, and so each kind is one jump away.
-pub fn in_range(r: Record) -> bool
-    ensures { λ v. ⌜ v ≡ inRange r ⌝ }
+// Whether every word of a record is in the range of the kind: called with a number for the kind, it is the one test of that kind. Kinds
+// that follow one another stand in two arms: of a run in one arm comparisons would be made, and so each kind is one jump away.
+pub fn fits(kind: u32, r: Record) -> bool
+    ensures { λ v. ⌜ v ≡ inRange (ofKind kind r) ⌝ }
 {
-    let kind = r.kind;
     match kind {
         5 | 7 | 10 | 13 | 16 | 18 | 20 | 23 | 35 => float_fits(r),
         6 | 8 | 14 | 17 | 19 | 21 | 24 => float_fits(r),
@@ -273,7 +272,7 @@ fn stands(r: Record, left: usize, deep: usize) -> bool
     ensures { λ v. ⌜ v ≡ standsOf left deep r ⌝ }
 {
     let kind = r.kind;
-    let own = in_range(r);
+    let own = fits(kind, r);
     if kind == 49 {
         let n = r.w5 as usize;
         return scan::both(own, scan::both(0 < deep, n <= left));
@@ -308,6 +307,19 @@ fn fault(table: &[u32], from: usize, count: usize, deep: usize) -> Checked
         }
     }
     Checked::Good
+}
+
+// A T at the index `at` that is in no other, with `left` records from there on: itself at fault, or the first at fault inside it.
+pub fn t_fault(table: &[u32], at: usize, left: usize, r: Record) -> Checked
+    requires { ⌜ (0 < left) × Inside (now table) at left ⌝ }
+    ensures { λ c. ⌜ c ≡ faultOfT (now (table .entry)) at (left - 1) r ⌝ }
+{
+    let n = r.w5 as usize;
+    if !scan::both(fits(49, r), n <= left - 1) {
+        return Checked::Bad(Refusal::TableMalformed(at));
+    }
+    let words = table;
+    fault(words, at + 1, n, 7)
 }
 
 // The excess over 1,024 records, or a broken one behind the whole ones.
@@ -351,6 +363,17 @@ pub fn check_times(t: i32, dur: i32) -> Checked
         return Checked::Good;
     }
     Checked::Bad(Refusal::TimeOutOfRange)
+}
+
+// What is left of grounds 5 and 6 where no record is at fault.
+pub fn after_records(table: &[u32], t: i32, dur: i32) -> Checked
+    ensures { λ r. ⌜ r ≡ first (excessOf (now (table .entry))) (timeGround t dur) ⌝ }
+{
+    let found = excess(table);
+    match found {
+        Checked::Good => check_times(t, dur),
+        Checked::Bad(x) => Checked::Bad(x),
+    }
 }
 
 // Grounds 5 and 6.
