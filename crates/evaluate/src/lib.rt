@@ -452,7 +452,7 @@ pub fn evaluate_at(table: &[u32], t: i32, dur: i32) -> Evaluated
         let kind = r.kind;
         match kind {
             1 => {
-                if !table::fits(1, r) {
+                if !table::numbers_fit(r, 2147483647, 2147483647) {
                     return Evaluated::Refused(Refusal::TableMalformed(at));
                 }
                 let s = post.always;
@@ -460,7 +460,7 @@ pub fn evaluate_at(table: &[u32], t: i32, dur: i32) -> Evaluated
                 at += 1;
             }
             2 => {
-                if !table::fits(2, r) {
+                if !table::fade_fits(r) {
                     return Evaluated::Refused(Refusal::TableMalformed(at));
                 }
                 let s = post.always;
@@ -468,7 +468,7 @@ pub fn evaluate_at(table: &[u32], t: i32, dur: i32) -> Evaluated
                 at += 1;
             }
             3 => {
-                if !table::fits(3, r) {
+                if !table::pair_fits(r) {
                     return Evaluated::Refused(Refusal::TableMalformed(at));
                 }
                 let s = post.places;
@@ -476,7 +476,7 @@ pub fn evaluate_at(table: &[u32], t: i32, dur: i32) -> Evaluated
                 at += 1;
             }
             4 => {
-                if !table::fits(4, r) {
+                if !table::move_fits(r) {
                     return Evaluated::Refused(Refusal::TableMalformed(at));
                 }
                 let s = post.places;
@@ -487,7 +487,7 @@ pub fn evaluate_at(table: &[u32], t: i32, dur: i32) -> Evaluated
                 at += 1;
             }
             5 => {
-                if !table::fits(5, r) {
+                if !table::float_fits(r) {
                     return Evaluated::Refused(Refusal::TableMalformed(at));
                 }
                 let s = post.always;
@@ -495,7 +495,7 @@ pub fn evaluate_at(table: &[u32], t: i32, dur: i32) -> Evaluated
                 at += 1;
             }
             6 => {
-                if !table::fits(6, r) {
+                if !table::float_fits(r) {
                     return Evaluated::Refused(Refusal::TableMalformed(at));
                 }
                 let s = post.always;
@@ -503,7 +503,7 @@ pub fn evaluate_at(table: &[u32], t: i32, dur: i32) -> Evaluated
                 at += 1;
             }
             7 => {
-                if !table::fits(7, r) {
+                if !table::float_fits(r) {
                     return Evaluated::Refused(Refusal::TableMalformed(at));
                 }
                 let s = post.always;
@@ -511,7 +511,7 @@ pub fn evaluate_at(table: &[u32], t: i32, dur: i32) -> Evaluated
                 at += 1;
             }
             8 => {
-                if !table::fits(8, r) {
+                if !table::float_fits(r) {
                     return Evaluated::Refused(Refusal::TableMalformed(at));
                 }
                 let s = post.always;
@@ -519,7 +519,7 @@ pub fn evaluate_at(table: &[u32], t: i32, dur: i32) -> Evaluated
                 at += 1;
             }
             9 => {
-                if !table::fits(9, r) {
+                if !table::colour_fits(r) {
                     return Evaluated::Refused(Refusal::TableMalformed(at));
                 }
                 let s = post.colors;
@@ -527,7 +527,7 @@ pub fn evaluate_at(table: &[u32], t: i32, dur: i32) -> Evaluated
                 at += 1;
             }
             10 => {
-                if !table::fits(10, r) {
+                if !table::float_fits(r) {
                     return Evaluated::Refused(Refusal::TableMalformed(at));
                 }
                 let s = post.sizes;
@@ -535,7 +535,7 @@ pub fn evaluate_at(table: &[u32], t: i32, dur: i32) -> Evaluated
                 at += 1;
             }
             11 => {
-                if !table::fits(11, r) {
+                if !table::rect_fits(r) {
                     return Evaluated::Refused(Refusal::TableMalformed(at));
                 }
                 let s = post.clips;
@@ -543,7 +543,7 @@ pub fn evaluate_at(table: &[u32], t: i32, dur: i32) -> Evaluated
                 at += 1;
             }
             12 => {
-                if !table::fits(12, r) {
+                if !table::drawing_fits(r) {
                     return Evaluated::Refused(Refusal::TableMalformed(at));
                 }
                 let s = post.line;
@@ -551,7 +551,7 @@ pub fn evaluate_at(table: &[u32], t: i32, dur: i32) -> Evaluated
                 at += 1;
             }
             13 => {
-                if !table::fits(13, r) {
+                if !table::float_fits(r) {
                     return Evaluated::Refused(Refusal::TableMalformed(at));
                 }
                 let s = post.always;
@@ -559,7 +559,7 @@ pub fn evaluate_at(table: &[u32], t: i32, dur: i32) -> Evaluated
                 at += 1;
             }
             14 => {
-                if !table::fits(14, r) {
+                if !table::float_fits(r) {
                     return Evaluated::Refused(Refusal::TableMalformed(at));
                 }
                 let s = post.always;
@@ -567,7 +567,7 @@ pub fn evaluate_at(table: &[u32], t: i32, dur: i32) -> Evaluated
                 at += 1;
             }
             15 => {
-                if !table::fits(15, r) {
+                if !table::pair_fits(r) {
                     return Evaluated::Refused(Refusal::TableMalformed(at));
                 }
                 let s = post.line;
@@ -575,7 +575,7 @@ pub fn evaluate_at(table: &[u32], t: i32, dur: i32) -> Evaluated
                 at += 1;
             }
             16 => {
-                if !table::fits(16, r) {
+                if !table::float_fits(r) {
                     return Evaluated::Refused(Refusal::TableMalformed(at));
                 }
                 let s = post.places;
@@ -583,7 +583,7 @@ pub fn evaluate_at(table: &[u32], t: i32, dur: i32) -> Evaluated
                 at += 1;
             }
             17 => {
-                if !table::fits(17, r) {
+                if !table::float_fits(r) {
                     return Evaluated::Refused(Refusal::TableMalformed(at));
                 }
                 let s = post.places;
@@ -592,7 +592,7 @@ pub fn evaluate_at(table: &[u32], t: i32, dur: i32) -> Evaluated
                 at += 1;
             }
             18 => {
-                if !table::fits(18, r) {
+                if !table::float_fits(r) {
                     return Evaluated::Refused(Refusal::TableMalformed(at));
                 }
                 let s = post.places;
@@ -601,7 +601,7 @@ pub fn evaluate_at(table: &[u32], t: i32, dur: i32) -> Evaluated
                 at += 1;
             }
             19 => {
-                if !table::fits(19, r) {
+                if !table::float_fits(r) {
                     return Evaluated::Refused(Refusal::TableMalformed(at));
                 }
                 let s = post.places;
@@ -609,7 +609,7 @@ pub fn evaluate_at(table: &[u32], t: i32, dur: i32) -> Evaluated
                 at += 1;
             }
             20 => {
-                if !table::fits(20, r) {
+                if !table::float_fits(r) {
                     return Evaluated::Refused(Refusal::TableMalformed(at));
                 }
                 let s = post.places;
@@ -618,7 +618,7 @@ pub fn evaluate_at(table: &[u32], t: i32, dur: i32) -> Evaluated
                 at += 1;
             }
             21 => {
-                if !table::fits(21, r) {
+                if !table::float_fits(r) {
                     return Evaluated::Refused(Refusal::TableMalformed(at));
                 }
                 let s = post.places;
@@ -627,7 +627,7 @@ pub fn evaluate_at(table: &[u32], t: i32, dur: i32) -> Evaluated
                 at += 1;
             }
             22 => {
-                if !table::fits(22, r) {
+                if !table::number_fits(r, 0, 255) {
                     return Evaluated::Refused(Refusal::TableMalformed(at));
                 }
                 let s = post.always;
@@ -635,7 +635,7 @@ pub fn evaluate_at(table: &[u32], t: i32, dur: i32) -> Evaluated
                 at += 1;
             }
             23 => {
-                if !table::fits(23, r) {
+                if !table::float_fits(r) {
                     return Evaluated::Refused(Refusal::TableMalformed(at));
                 }
                 let s = post.always;
@@ -643,7 +643,7 @@ pub fn evaluate_at(table: &[u32], t: i32, dur: i32) -> Evaluated
                 at += 1;
             }
             24 => {
-                if !table::fits(24, r) {
+                if !table::float_fits(r) {
                     return Evaluated::Refused(Refusal::TableMalformed(at));
                 }
                 let s = post.always;
@@ -651,7 +651,7 @@ pub fn evaluate_at(table: &[u32], t: i32, dur: i32) -> Evaluated
                 at += 1;
             }
             25 => {
-                if !table::fits(25, r) {
+                if !table::rect_fits(r) {
                     return Evaluated::Refused(Refusal::TableMalformed(at));
                 }
                 let s = post.clips;
@@ -659,7 +659,7 @@ pub fn evaluate_at(table: &[u32], t: i32, dur: i32) -> Evaluated
                 at += 1;
             }
             26 => {
-                if !table::fits(26, r) {
+                if !table::drawing_fits(r) {
                     return Evaluated::Refused(Refusal::TableMalformed(at));
                 }
                 let s = post.line;
@@ -667,7 +667,7 @@ pub fn evaluate_at(table: &[u32], t: i32, dur: i32) -> Evaluated
                 at += 1;
             }
             27 => {
-                if !table::fits(27, r) {
+                if !table::colour_fits(r) {
                     return Evaluated::Refused(Refusal::TableMalformed(at));
                 }
                 let s = post.colors;
@@ -675,7 +675,7 @@ pub fn evaluate_at(table: &[u32], t: i32, dur: i32) -> Evaluated
                 at += 1;
             }
             28 => {
-                if !table::fits(28, r) {
+                if !table::colour_fits(r) {
                     return Evaluated::Refused(Refusal::TableMalformed(at));
                 }
                 let s = post.colors;
@@ -683,7 +683,7 @@ pub fn evaluate_at(table: &[u32], t: i32, dur: i32) -> Evaluated
                 at += 1;
             }
             29 => {
-                if !table::fits(29, r) {
+                if !table::colour_fits(r) {
                     return Evaluated::Refused(Refusal::TableMalformed(at));
                 }
                 let s = post.colors;
@@ -691,14 +691,14 @@ pub fn evaluate_at(table: &[u32], t: i32, dur: i32) -> Evaluated
                 at += 1;
             }
             30 => {
-                if !table::fits(30, r) {
+                if !table::number_fits(r, 0, 255) {
                     return Evaluated::Refused(Refusal::TableMalformed(at));
                 }
                 post.alphas = apply::all_alphas(r.w1);
                 at += 1;
             }
             31 => {
-                if !table::fits(31, r) {
+                if !table::number_fits(r, 0, 255) {
                     return Evaluated::Refused(Refusal::TableMalformed(at));
                 }
                 let s = post.alphas;
@@ -706,7 +706,7 @@ pub fn evaluate_at(table: &[u32], t: i32, dur: i32) -> Evaluated
                 at += 1;
             }
             32 => {
-                if !table::fits(32, r) {
+                if !table::number_fits(r, 0, 255) {
                     return Evaluated::Refused(Refusal::TableMalformed(at));
                 }
                 let s = post.alphas;
@@ -714,7 +714,7 @@ pub fn evaluate_at(table: &[u32], t: i32, dur: i32) -> Evaluated
                 at += 1;
             }
             33 => {
-                if !table::fits(33, r) {
+                if !table::number_fits(r, 0, 255) {
                     return Evaluated::Refused(Refusal::TableMalformed(at));
                 }
                 let s = post.alphas;
@@ -722,7 +722,7 @@ pub fn evaluate_at(table: &[u32], t: i32, dur: i32) -> Evaluated
                 at += 1;
             }
             34 => {
-                if !table::fits(34, r) {
+                if !table::number_fits(r, 0, 255) {
                     return Evaluated::Refused(Refusal::TableMalformed(at));
                 }
                 let s = post.alphas;
@@ -730,7 +730,7 @@ pub fn evaluate_at(table: &[u32], t: i32, dur: i32) -> Evaluated
                 at += 1;
             }
             35 => {
-                if !table::fits(35, r) {
+                if !table::float_fits(r) {
                     return Evaluated::Refused(Refusal::TableMalformed(at));
                 }
                 let s = post.sizes;
@@ -738,7 +738,7 @@ pub fn evaluate_at(table: &[u32], t: i32, dur: i32) -> Evaluated
                 at += 1;
             }
             36 => {
-                if !table::fits(36, r) {
+                if !table::number_fits(r, 0, 3) {
                     return Evaluated::Refused(Refusal::TableMalformed(at));
                 }
                 let s = post.line;
@@ -746,7 +746,7 @@ pub fn evaluate_at(table: &[u32], t: i32, dur: i32) -> Evaluated
                 at += 1;
             }
             37 => {
-                if !table::fits(37, r) {
+                if !table::number_fits(r, 1, 9) {
                     return Evaluated::Refused(Refusal::TableMalformed(at));
                 }
                 let s = post.line;
@@ -754,7 +754,7 @@ pub fn evaluate_at(table: &[u32], t: i32, dur: i32) -> Evaluated
                 at += 1;
             }
             38 => {
-                if !table::fits(38, r) {
+                if !table::number_fits(r, 0, 255) {
                     return Evaluated::Refused(Refusal::TableMalformed(at));
                 }
                 let s = post.line;
@@ -762,7 +762,7 @@ pub fn evaluate_at(table: &[u32], t: i32, dur: i32) -> Evaluated
                 at += 1;
             }
             39 => {
-                if !table::fits(39, r) {
+                if !table::font_fits(r) {
                     return Evaluated::Refused(Refusal::TableMalformed(at));
                 }
                 let s = post.font;
@@ -770,7 +770,7 @@ pub fn evaluate_at(table: &[u32], t: i32, dur: i32) -> Evaluated
                 at += 1;
             }
             40 => {
-                if !table::fits(40, r) {
+                if !table::number_fits(r, 0, 255) {
                     return Evaluated::Refused(Refusal::TableMalformed(at));
                 }
                 let s = post.font;
@@ -778,14 +778,14 @@ pub fn evaluate_at(table: &[u32], t: i32, dur: i32) -> Evaluated
                 at += 1;
             }
             41 => {
-                if !table::fits(41, r) {
+                if !table::reset_fits(r) {
                     return Evaluated::Refused(Refusal::TableMalformed(at));
                 }
                 post = apply::reset(table::record_at(table, at));
                 at += 1;
             }
             42 => {
-                if !table::fits(42, r) {
+                if !table::weight_fits(r) {
                     return Evaluated::Refused(Refusal::TableMalformed(at));
                 }
                 let s = post.font;
@@ -793,7 +793,7 @@ pub fn evaluate_at(table: &[u32], t: i32, dur: i32) -> Evaluated
                 at += 1;
             }
             43 => {
-                if !table::fits(43, r) {
+                if !table::number_fits(r, 0, 1) {
                     return Evaluated::Refused(Refusal::TableMalformed(at));
                 }
                 let s = post.font;
@@ -801,7 +801,7 @@ pub fn evaluate_at(table: &[u32], t: i32, dur: i32) -> Evaluated
                 at += 1;
             }
             44 => {
-                if !table::fits(44, r) {
+                if !table::number_fits(r, 0, 1) {
                     return Evaluated::Refused(Refusal::TableMalformed(at));
                 }
                 let s = post.font;
@@ -809,7 +809,7 @@ pub fn evaluate_at(table: &[u32], t: i32, dur: i32) -> Evaluated
                 at += 1;
             }
             45 => {
-                if !table::fits(45, r) {
+                if !table::number_fits(r, 0, 1) {
                     return Evaluated::Refused(Refusal::TableMalformed(at));
                 }
                 let s = post.font;
@@ -817,13 +817,13 @@ pub fn evaluate_at(table: &[u32], t: i32, dur: i32) -> Evaluated
                 at += 1;
             }
             46 => {
-                if !table::fits(46, r) {
+                if !table::numbers_fit(r, 2, 1000000000) {
                     return Evaluated::Refused(Refusal::TableMalformed(at));
                 }
                 at += 1;
             }
             47 => {
-                if !table::fits(47, r) {
+                if !table::shift_fits(r) {
                     return Evaluated::Refused(Refusal::TableMalformed(at));
                 }
                 let s = post.sizes;
@@ -834,7 +834,7 @@ pub fn evaluate_at(table: &[u32], t: i32, dur: i32) -> Evaluated
                 at += 1;
             }
             48 => {
-                if !table::fits(48, r) {
+                if !table::number_fits(r, 0, 255) {
                     return Evaluated::Refused(Refusal::TableMalformed(at));
                 }
                 let s = post.line;

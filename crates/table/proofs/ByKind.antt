@@ -1,4 +1,4 @@
--- The range of a record by its kind: each arm of `fits` is for kinds that have one row, and the arms are for all of them.
+-- The range of a record by its kind: each arm of `in_range` is for kinds that have one row, and the arms are for all of them.
 use mathlib.Core.Path.{_≡_, refl, sym, ap, _∙_}
 use mathlib.Core.List.{List, [], _∷_, map}
 use mathlib.Core.Bool.{Bool, true, false, true≢false}
@@ -29,6 +29,10 @@ never false = refl
 as-is : (b : Bool) → pick b true false ≡ b
 as-is true = refl
 as-is false = refl
+
+-- a row that joins no words
+pub unjoined : {v b : Bool} → v ≡ b → v ≡ pick b true false
+unjoined {b = b} e = e ∙ sym (as-is b)
 
 of-row : (r : Record) → inRange r ≡ fits (rowOf (r .kind)) r
 unfolding inRange

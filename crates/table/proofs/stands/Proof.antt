@@ -3,8 +3,8 @@ use borrow.Author.Needs.{needs}
 use Rattle.table.proofs.stands.Statement.{statement}
 use Rattle.table.proofs.stands.Tie as tie
 
-fits-requires : tie.Need-fits-requires
-fits-requires c κs = search needs
+in-range-requires : tie.Need-in-range-requires
+in-range-requires c κs = search needs
 
 cast-n : tie.Need-cast-n
 cast-n c = search needs
@@ -19,7 +19,7 @@ returns : tie.Need-returns
 returns c = rw (eq-eqb _ _ (c .before .before .before .if1 .taken)) (cc)
 
 returns-2 : tie.Need-returns-2
-returns-2 c = rw (ne-eqb _ _ (c .if1 .left)) (c .before .fits2 .ensures)
+returns-2 c = rw (ne-eqb _ _ (c .if1 .left)) (c .before .in-range .ensures)
 
 pub stands-spec : {M : Type 1} → statement M
-stands-spec = tie.close (tie.spec fits-requires cast-n both-requires both-requires-2 returns returns-2)
+stands-spec = tie.close (tie.spec in-range-requires cast-n both-requires both-requires-2 returns returns-2)

@@ -6,8 +6,8 @@ use Rattle.tag.specs.Range.{unused, float, range, time, weight, free, timesFit,
 use Rattle.table.specs.Inner.{fontParts, stylePart}
 use Rattle.table.proofs.ByKind.{of-kinds, of-joined, none-left, of-none}
 use borrow.Author.Needs.{needs}
-use Rattle.table.proofs.fits.Statement.{statement}
-use Rattle.table.proofs.fits.Tie as tie
+use Rattle.table.proofs.in_range.Statement.{statement}
+use Rattle.table.proofs.in_range.Tie as tie
 
 float-fits-requires : tie.Need-float-fits-requires
 float-fits-requires c κs = search needs
@@ -170,8 +170,8 @@ returns-22 c = c .shift-fits .ensures ∙ of-kinds time unused unused unused unu
 returns-23 : tie.Need-returns-23
 returns-23 c = of-none _ (λ h k. let z = none-left 49 1 kinds refl (c .match .rest) h in omega arith)
 
-pub fits-spec : {M : Type 1} → statement M
-fits-spec =
+pub in-range-spec : {M : Type 1} → statement M
+in-range-spec =
     tie.close
     (tie.spec
     float-fits-requires
