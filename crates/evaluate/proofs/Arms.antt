@@ -21,7 +21,7 @@ use Rattle.apply.specs.declared.Group.{Group}
 use Rattle.apply.specs.Inner.{groups, groupOf}
 use Rattle.apply.proofs.Groups.{t-kind, kind-t}
 use Rattle.apply.proofs.Keys.{Missed, from, past}
-use Rattle.table.specs.Inner.{recordIn}
+use Rattle.table.specs.Inner.{recordIn, ofKind}
 use Rattle.table.proofs.Slices.{record-first}
 use Rattle.evaluate.specs.Inner.{recordFrom, tagsAt, insideOf, aroundOf}
 use Rattle.evaluate.proofs.Turns.{Looping, loop-plain, loop-around}
@@ -44,10 +44,6 @@ pub no-kind : (k : ℕ) → Missed k Unit (from 1 49) → groupOf k ≡ Group.No
 unfolding groupOf groups
 no-kind zero m = refl
 no-kind (suc k) m = List·getD-eq-default groups Group.Nothing (past (suc k) 1 49 m (omega arith))
-
--- the words of r as a record of the kind k
-abbrev pub kindly : Record → ℕ → Record
-kindly r k = record { kind = k; w1 = r .w1; w2 = r .w2; w3 = r .w3; w4 = r .w4; w5 = r .w5; w6 = r .w6; w7 = r .w7 }
 
 -- ---- the times of a T
 
@@ -84,11 +80,11 @@ module _ {t dur : ℤ} {ws : List ℕ} {first count : ℕ} {st : RenderState} wh
 
   -- the record r of the kind k, which is no T
   pub turn-kind : {at left : ℕ} {post next : RenderState} (k : ℕ) {r : Record} → eqb k tKind ≡ false → Looping t dur ws first count st at left post → 0 < left → r ≡ recordIn ws at → r .kind ≡ k →
-      applyOwn t dur (decodeOne (kindly r k)) (λ s. s) post ≡ next → Looping t dur ws first count st (at + 1) (left - 1) next
+      applyOwn t dur (decodeOne (ofKind k r)) (λ s. s) post ≡ next → Looping t dur ws first count st (at + 1) (left - 1) next
   turn-kind {at = at} {post = post} k {r = r} n l z i q h =
       let e : r ≡ recordFrom ws at = i ∙ record-first ws at in
       loop-plain l z (λ y. absurd (true≢false (sym (eq-eqb k tKind (sym q ∙ ap (λ (x : Record). x .kind) e ∙ y)) ∙ n)))
-      (ap (λ (x : Record). applyOwn t dur (decodeOne x) (λ s. s) post) (sym e) ∙ ap (λ (j : ℕ). applyOwn t dur (decodeOne (kindly r j)) (λ s. s) post) q ∙ h)
+      (ap (λ (x : Record). applyOwn t dur (decodeOne x) (λ s. s) post) (sym e) ∙ ap (λ (j : ℕ). applyOwn t dur (decodeOne (ofKind j r)) (λ s. s) post) q ∙ h)
 
   -- the record of a T, with m records inside it and the times x
   pub turn-around : {at left m : ℕ} {post next : RenderState} {r : Record} {g : Group} (x : Times) → Looping t dur ws first count st at left post → 0 < left →

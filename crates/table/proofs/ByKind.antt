@@ -30,6 +30,10 @@ as-is : (b : Bool) → pick b true false ≡ b
 as-is true = refl
 as-is false = refl
 
+-- a row that joins no words
+pub unjoined : {v b : Bool} → v ≡ b → v ≡ pick b true false
+unjoined {b = b} e = e ∙ sym (as-is b)
+
 of-row : (r : Record) → inRange r ≡ fits (rowOf (r .kind)) r
 unfolding inRange
 of-row r = go (within 1 (length rows) (r .kind))

@@ -14,10 +14,11 @@ use Rattle.refusal.specs.declared.Checked.the-variants.{Good, Bad}
 use Rattle.refusal.specs.declared.Refusal.{Refusal}
 use Rattle.refusal.specs.declared.Refusal.the-variants.{TableMalformed}
 use Rattle.tag.specs.declared.Record.{Record}
+use Rattle.tag.specs.Tag.{mostDepth}
 use Rattle.tag.specs.Table.{placesOf}
 use Rattle.tag.specs.Range.{inRange}
 use Rattle.tag.specs.WellFormed.{tKind, holds, first, faultIn, fault}
-use Rattle.table.specs.Inner.{recordIn, part, Inside, stands}
+use Rattle.table.specs.Inner.{recordIn, part, Inside, ofKind, stands, faultOfT}
 use Rattle.table.proofs.Slices.{inside-places, part-more, length-part, take-part, drop-part}
 
 -- how many turns are allowed does not matter, where they are enough
@@ -57,6 +58,13 @@ in-range left d r e = go (eqb (r .kind) tKind) e
     go : (b : Bool) → pick b (both (inRange r) (both (ltb 0 d) (leb (holds r) left))) (inRange r) ≡ true → inRange r ≡ true
     go true e = both-true (inRange r) (both (ltb 0 d) (leb (holds r) left)) e .0
     go false e = e
+
+out : (left d : ℕ) (r : Record) → inRange r ≡ false → stands left d r ≡ false
+out left d r e = rw e (go (eqb (r .kind) tKind))
+  where
+    go : (b : Bool) → pick b false false ≡ false
+    go true = refl
+    go false = refl
 
 -- ---- one record and those behind it
 
@@ -131,6 +139,17 @@ module _ (t : List ℕ) (d at left : ℕ) (h : Inside t at left) (g : 0 < left) 
       let f = fault-t d at r behind (in-range (left - 1) d r e) k (s .0) (rw size (s .1)) in
       ap (fault d at) here ∙ f ∙ rw (take-part t (at + 1) (left - 1) (holds r) (s .1), drop-part t (at + 1) (left - 1) (holds r) (s .1))
 
+  -- a record of the kind k that was asked whether it fits that kind
+  module _ (x : Record) (e : x ≡ r) (k : ℕ) (q : x .kind ≡ k) (v : Bool) (s : v ≡ inRange (ofKind k x)) where
+    own : v ≡ inRange r
+    own = s ∙ ap (λ (j : ℕ). inRange (ofKind j x)) (sym q) ∙ ap inRange e
+
+    pub kind-bad : v ≡ false → Bad (TableMalformed at) ≡ fault d at (part t at left)
+    kind-bad z = sym (step-bad (out (left - 1) d r (sym own ∙ z)))
+
+    pub kind-plain : v ≡ true → eqb k tKind ≡ false → fault d (at + 1) behind ≡ fault d at (part t at left)
+    kind-plain z n = sym (ap (fault d at) here ∙ fault-plain d at r behind (sym own ∙ z) (λ y. true≢false (sym (eq-eqb k tKind (sym q ∙ ap (λ (w : Record). w .kind) e ∙ y)) ∙ n)))
+
   -- a turn of the loop, by what the code has found
   module _ (x : Record) (e : x ≡ r) (v : Bool) (s : v ≡ stands (left - 1) d x) where
     pub turn-bad : v ≡ false → Bad (TableMalformed at) ≡ fault d at (part t at left)
@@ -151,3 +170,43 @@ module _ (t : List ℕ) (d at left : ℕ) (h : Inside t at left) (g : 0 < left) 
 
       pub turn-past : (c : Checked) → c ≡ fault (d - 1) (at + 1) (part t (at + 1) (holds x)) → c ≡ Good → fault d (at + 1 + holds x) (part t (at + 1 + holds x) (left - 1 - holds x)) ≡ fault d at (part t at left)
       turn-past c f g = sym (turn-t ∙ ap (λ (y : Checked). first y (fault d (at + 1 + holds x) (part t (at + 1 + holds x) (left - 1 - holds x)))) (sym f ∙ g))
+
+-- ---- a T that is in no other
+
+-- what the code has found of one
+module _ (t : List ℕ) (at n : ℕ) (x : Record) {u v : Bool} (p : u ≡ inRange (ofKind tKind x)) (q : v ≡ both u (leb (holds x) n)) where
+  pub t-missed : v ≡ false → Bad (TableMalformed at) ≡ faultOfT t at n x
+  unfolding faultOfT
+  t-missed z = rw (sym p, sym q, z)
+
+  pub t-passed : v ≡ true → {c : Checked} → c ≡ fault (mostDepth - 1) (at + 1) (part t (at + 1) (holds x)) → c ≡ faultOfT t at n x
+  unfolding faultOfT
+  t-passed z e = rw (sym p, sym q, z, e)
+
+  pub t-reach : v ≡ true → holds x ≤ n
+  t-reach z = leb-true (holds x) n (both-true u (leb (holds x) n) (sym q ∙ z) .1)
+
+bad-good : {b : Refusal} → Bad b ≡ Good → ⊥
+bad-good e = let z : _≡_ {A = ℕ} 0 1 = cc in omega arith
+
+module _ (t : List ℕ) (at left : ℕ) (h : Inside t at left) (g : 0 < left) (x : Record) (e : x ≡ recordIn t at) (k : x .kind ≡ tKind) (c : Checked) (f : c ≡ faultOfT t at (left - 1) x) where
+  abbrev found : Bool → Checked
+  found v = pick v (fault (mostDepth - 1) (at + 1) (part t (at + 1) (holds x))) (Bad (TableMalformed at))
+
+  by-stands : (v : Bool) → v ≡ stands (left - 1) mostDepth x → c ≡ found v
+  unfolding faultOfT
+  by-stands v s = f ∙ rw (s, eq-eqb (x .kind) tKind k) (ap (λ (j : ℕ). found (both (inRange (ofKind j x)) (leb (holds x) (left - 1)))) (sym k))
+
+  bad-by : (v : Bool) → v ≡ stands (left - 1) mostDepth x → (b : Refusal) → c ≡ Bad b → Bad b ≡ fault mostDepth at (part t at left)
+  bad-by false s b y = sym y ∙ by-stands false s ∙ turn-bad t mostDepth at left h g x e false s refl
+  bad-by true s b y = turn-in t mostDepth at left h g x e true s refl k c (by-stands true s) b y
+
+  good-by : (v : Bool) → v ≡ stands (left - 1) mostDepth x → c ≡ Good → (holds x ≤ left - 1) × (fault mostDepth (at + 1 + holds x) (part t (at + 1 + holds x) (left - 1 - holds x)) ≡ fault mostDepth at (part t at left))
+  good-by false s y = absurd (bad-good (sym (by-stands false s) ∙ y))
+  good-by true s y = (turn-room t mostDepth at left h g x e true s refl k .1, turn-past t mostDepth at left h g x e true s refl k c (by-stands true s) y)
+
+  pub top-bad : (b : Refusal) → c ≡ Bad b → Bad b ≡ fault mostDepth at (part t at left)
+  top-bad b y = bad-by _ refl b y
+
+  pub top-past : c ≡ Good → (holds x ≤ left - 1) × (fault mostDepth (at + 1 + holds x) (part t (at + 1 + holds x) (left - 1 - holds x)) ≡ fault mostDepth at (part t at left))
+  top-past y = good-by _ refl y

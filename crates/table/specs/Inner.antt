@@ -1,14 +1,18 @@
 -- What the inner functions say, in the code's words: nothing here is a promise to a caller.
 use mathlib.Core.List.{List}
 use mathlib.Core.Bool.{Bool, true, false}
-use Prim.Native.Nat.{ℕ, _+_, _*_, _≤_}
+use Prim.Native.Nat.{ℕ, _+_, _-_, _*_, _≤_}
 use lib.Dec.{leb, ltb, eqb}
 use lib.ListN.{length, getD, take, drop}
 use Rattle.scan.specs.Scan.{pick, both}
+use Rattle.refusal.specs.declared.Checked.{Checked}
+use Rattle.refusal.specs.declared.Checked.the-variants.{Bad}
+use Rattle.refusal.specs.declared.Refusal.the-variants.{TableMalformed}
 use Rattle.tag.specs.declared.Record.{Record}
+use Rattle.tag.specs.Tag.{mostDepth}
 use Rattle.tag.specs.Table.{width, rec}
 use Rattle.tag.specs.Range.{WordClass, unused, rowFits, partFits, inRange}
-use Rattle.tag.specs.WellFormed.{recordsOf, tKind, holds}
+use Rattle.tag.specs.WellFormed.{recordsOf, tKind, holds, fault}
 
 -- the record with the index at, and n records from it on
 abbrev pub recordIn : List ℕ → ℕ → Record
@@ -40,6 +44,14 @@ fontParts r = both (partFits (r .w1) (r .w2)) (both (partFits (r .w3) (r .w4)) (
 abbrev pub stylePart : ℕ → ℕ → ℕ → Bool
 stylePart f o n = pick (eqb f 0) (both (eqb o 0) (eqb n 0)) (both (partFits o n) (ltb 0 n))
 
+-- the words of r as a record of the kind k
+abbrev pub ofKind : ℕ → Record → Record
+ofKind k r = rec k (r .w1) (r .w2) (r .w3) (r .w4) (r .w5) (r .w6) (r .w7)
+
 -- a record is not at fault by its own words, with so many records behind it and d more levels of T allowed
 abbrev pub stands : ℕ → ℕ → Record → Bool
 stands left d r = pick (eqb (r .kind) tKind) (both (inRange r) (both (ltb 0 d) (leb (holds r) left))) (inRange r)
+
+-- the T r with the index at that is in no other, with n records behind it: itself at fault, or the first at fault inside it
+unfoldable pub faultOfT : List ℕ → ℕ → ℕ → Record → Checked
+faultOfT t at n r = pick (both (inRange (ofKind tKind r)) (leb (holds r) n)) (fault (mostDepth - 1) (at + 1) (part t (at + 1) (holds r))) (Bad (TableMalformed at))

@@ -4,13 +4,13 @@ use refusal::Refusal;
 use tag::Record;
 ghost use mathlib.Core.Path.{_≡_};
 ghost use mathlib.Core.Bool.{true};
-ghost use Prim.Native.Nat.{_+_, _*_, _≤_};
+ghost use Prim.Native.Nat.{_+_, _-_, _*_, _≤_, _<_};
 ghost use lib.Dec.{eqb};
 ghost use lib.ListN.{length};
 ghost use Rattle.scan.specs.Scan.{both, within as withinOf};
 ghost use Rattle.tag.specs.Range.{unused, float, range, time, weight, free, timeWord, partFits, timesFit, wordFits, inRange};
-ghost use Rattle.tag.specs.WellFormed.{fault as faultOf, excess as excessOf, tableGround};
-ghost use Rattle.table.specs.Inner.{recordIn, part, Inside, wordsFit, oneFits, twoFit, fontParts, stylePart, stands as standsOf};
+ghost use Rattle.tag.specs.WellFormed.{first, fault as faultOf, excess as excessOf, tableGround};
+ghost use Rattle.table.specs.Inner.{recordIn, part, Inside, wordsFit, oneFits, twoFit, fontParts, stylePart, ofKind, stands as standsOf, faultOfT};
 ghost use Rattle.table.specs.Ground.{inTime, timeGround, callGround};
 
 // The record with the index `at`.
@@ -72,7 +72,7 @@ fn part_fits(offset: u32, size: u32) -> bool
     (offset as u64) + (size as u64) <= 12288
 }
 
-// ---- the words of a record
+// ---- the words of a record, by what its kind asks of them
 
 fn unused_from_5(r: Record) -> bool
     ensures { λ v. ⌜ v ≡ both (eqb (r .w5) 0) (both (eqb (r .w6) 0) (eqb (r .w7) 0)) ⌝ }
@@ -86,13 +86,13 @@ fn unused_from_3(r: Record) -> bool
     scan::both(r.w3 == 0, scan::both(r.w4 == 0, unused_from_5(r)))
 }
 
-fn float_fits(r: Record) -> bool
+pub fn float_fits(r: Record) -> bool
     ensures { λ v. ⌜ v ≡ oneFits float r ⌝ }
 {
     scan::both(is_float(r.w1), scan::both(r.w2 == 0, unused_from_3(r)))
 }
 
-fn number_fits(r: Record, low: u32, high: u32) -> bool
+pub fn number_fits(r: Record, low: u32, high: u32) -> bool
     ensures { λ v. ⌜ v ≡ oneFits (range low high) r ⌝ }
 {
     scan::both(
@@ -101,13 +101,13 @@ fn number_fits(r: Record, low: u32, high: u32) -> bool
     )
 }
 
-fn pair_fits(r: Record) -> bool
+pub fn pair_fits(r: Record) -> bool
     ensures { λ v. ⌜ v ≡ twoFit float float r ⌝ }
 {
     scan::both(is_float(r.w1), scan::both(is_float(r.w2), unused_from_3(r)))
 }
 
-fn numbers_fit(r: Record, high1: u32, high2: u32) -> bool
+pub fn numbers_fit(r: Record, high1: u32, high2: u32) -> bool
     ensures { λ v. ⌜ v ≡ twoFit (range 0 high1) (range 0 high2) r ⌝ }
 {
     scan::both(
@@ -116,7 +116,7 @@ fn numbers_fit(r: Record, high1: u32, high2: u32) -> bool
     )
 }
 
-fn colour_fits(r: Record) -> bool
+pub fn colour_fits(r: Record) -> bool
     ensures { λ v. ⌜ v ≡ wordsFit (range 0 255) (range 0 255) (range 0 255) unused unused unused unused r ⌝ }
 {
     scan::both(
@@ -131,7 +131,7 @@ fn colour_fits(r: Record) -> bool
     )
 }
 
-fn rect_fits(r: Record) -> bool
+pub fn rect_fits(r: Record) -> bool
     ensures { λ v. ⌜ v ≡ wordsFit float float float float unused unused unused r ⌝ }
 {
     scan::both(
@@ -143,7 +143,7 @@ fn rect_fits(r: Record) -> bool
     )
 }
 
-fn fade_fits(r: Record) -> bool
+pub fn fade_fits(r: Record) -> bool
     ensures { λ v. ⌜ v ≡ wordsFit (range 0 255) (range 0 255) (range 0 255) time time time time r ⌝ }
 {
     let times = scan::both(
@@ -159,7 +159,7 @@ fn fade_fits(r: Record) -> bool
     )
 }
 
-fn move_fits(r: Record) -> bool
+pub fn move_fits(r: Record) -> bool
     ensures { λ v. ⌜ v ≡ both (wordsFit float float float float (range 0 1) time time r) (timesFit (r .w5) (r .w6) (r .w7)) ⌝ }
 {
     let times = scan::both(within(0, 1, r.w5), scan::both(is_time(r.w6), is_time(r.w7)));
@@ -170,13 +170,13 @@ fn move_fits(r: Record) -> bool
     )
 }
 
-fn drawing_fits(r: Record) -> bool
+pub fn drawing_fits(r: Record) -> bool
     ensures { λ v. ⌜ v ≡ both (twoFit free free r) (partFits (r .w1) (r .w2)) ⌝ }
 {
     scan::both(unused_from_3(r), part_fits(r.w1, r.w2))
 }
 
-fn font_fits(r: Record) -> bool
+pub fn font_fits(r: Record) -> bool
     ensures { λ v. ⌜ v ≡ both (wordsFit free free free free unused unused unused r) (fontParts r) ⌝ }
 {
     scan::both(
@@ -188,14 +188,14 @@ fn font_fits(r: Record) -> bool
     )
 }
 
-fn weight_fits(r: Record) -> bool
+pub fn weight_fits(r: Record) -> bool
     ensures { λ v. ⌜ v ≡ oneFits weight r ⌝ }
 {
     let w = scan::either(r.w1 == 0, within(100, 900, r.w1));
     scan::both(w, scan::both(r.w2 == 0, unused_from_3(r)))
 }
 
-fn shift_fits(r: Record) -> bool
+pub fn shift_fits(r: Record) -> bool
     ensures { λ v. ⌜ v ≡ oneFits time r ⌝ }
 {
     scan::both(is_time(r.w1), scan::both(r.w2 == 0, unused_from_3(r)))
@@ -211,7 +211,7 @@ fn style_part(flag: u32, offset: u32, size: u32) -> bool
     scan::both(part_fits(offset, size), 0 < size)
 }
 
-fn reset_fits(r: Record) -> bool
+pub fn reset_fits(r: Record) -> bool
     ensures { λ v. ⌜ v ≡ both (wordsFit (range 0 1) free free unused unused unused unused r) (stylePart (r .w1) (r .w2) (r .w3)) ⌝ }
 {
     scan::both(
@@ -235,7 +235,7 @@ fn t_fits(r: Record) -> bool
 
 // Whether every word of a record is in the range of its kind. Kinds that follow one another stand in two arms: of a run in one arm
 // comparisons would be made, and so each kind is one jump away.
-pub fn in_range(r: Record) -> bool
+fn in_range(r: Record) -> bool
     ensures { λ v. ⌜ v ≡ inRange r ⌝ }
 {
     let kind = r.kind;
@@ -310,6 +310,19 @@ fn fault(table: &[u32], from: usize, count: usize, deep: usize) -> Checked
     Checked::Good
 }
 
+// A T at the index `at` that is in no other, with `left` records from there on: itself at fault, or the first at fault inside it.
+pub fn t_fault(table: &[u32], at: usize, left: usize, r: Record) -> Checked
+    requires { ⌜ (0 < left) × Inside (now table) at left ⌝ }
+    ensures { λ c. ⌜ c ≡ faultOfT (now (table .entry)) at (left - 1) r ⌝ }
+{
+    let n = r.w5 as usize;
+    if !scan::both(t_fits(r), n <= left - 1) {
+        return Checked::Bad(Refusal::TableMalformed(at));
+    }
+    let words = table;
+    fault(words, at + 1, n, 7)
+}
+
 // The excess over 1,024 records, or a broken one behind the whole ones.
 fn excess(table: &[u32]) -> Checked
     ensures { λ r. ⌜ r ≡ excessOf (now (table .entry)) ⌝ }
@@ -351,6 +364,17 @@ pub fn check_times(t: i32, dur: i32) -> Checked
         return Checked::Good;
     }
     Checked::Bad(Refusal::TimeOutOfRange)
+}
+
+// What is left of grounds 5 and 6 where no record is at fault.
+pub fn after_records(table: &[u32], t: i32, dur: i32) -> Checked
+    ensures { λ r. ⌜ r ≡ first (excessOf (now (table .entry))) (timeGround t dur) ⌝ }
+{
+    let found = excess(table);
+    match found {
+        Checked::Good => check_times(t, dur),
+        Checked::Bad(x) => Checked::Bad(x),
+    }
 }
 
 // Grounds 5 and 6.
