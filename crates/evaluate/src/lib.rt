@@ -876,3 +876,21 @@ pub fn evaluate_at(table: &[u32], t: i32, dur: i32) -> Evaluated
         Checked::Good => Evaluated::State(post),
     }
 }
+
+// The same in two steps, the table looked over and then its tags applied: for callers other than the C call of evaluation, into which the
+// compiler puts the loop above only as long as it is the one caller.
+pub fn evaluate_in_steps(table: &[u32], t: i32, dur: i32) -> Evaluated
+    ensures { λ r. ⌜ r ≡ evaluated (now (table .entry)) t dur ⌝ }
+{
+    match table::check_call(table, t, dur) {
+        Checked::Bad(r) => Evaluated::Refused(r),
+        Checked::Good => Evaluated::State(apply_tags(
+            table,
+            0,
+            table.len() / 8,
+            state::identity(),
+            t,
+            dur,
+        )),
+    }
+}

@@ -177,7 +177,7 @@ pub extern "C" fn hannuvel_style_in_force<'a>(
 {
     match style::check_texts(block, own) {
         refusal::Checked::Bad(g) => packed_refusal(g),
-        refusal::Checked::Good => match evaluate::evaluate_at(table, t, duration) {
+        refusal::Checked::Good => match evaluate::evaluate_in_steps(table, t, duration) {
             evaluate::Evaluated::Refused(r) => packed_refusal(r),
             evaluate::Evaluated::State(st) => packed_style(style::named_style(st, block, own)),
         },
