@@ -23,9 +23,9 @@ use state::Sizes;
 use tag::Record;
 ghost use mathlib.Core.Path.{_≡_};
 ghost use Rattle.scan.specs.Scan.{pick};
-ghost use Rattle.tag.specs.Tag.{times};
-ghost use Rattle.tag.specs.Decode.{f};
-ghost use Rattle.state.specs.Mix.{finite as finiteOf, nearZero, accelOf, bent as bentOf, held as heldOf, factor as factorOf, roundBetween, f32Or, i32Or, mixAlphas, mixAlways, mixClips, mixColors, mixF32, mixFont, mixI32, mixLine, mixOptPair, mixOptRect, mixOptRgb, mixPlaces, mixRect, mixRgb, mixSizes, mixStrength, mixU8, pairOr, rectOr, rgbOr, samePair, u8Or};
+ghost use Rattle.tag.specs.Decode.{f, timesOf};
+ghost use Rattle.state.specs.declared.OptPair.{OptPair as Paired};
+ghost use Rattle.state.specs.Mix.{finite as finiteOf, nearZero, accelOf, bent as bentOf, held as heldOf, factor as factorOf, roundBetween, f32Or, i32Or, mixAlphas, mixAlways, mixClips, mixColors, mixF32, mixFont, mixI32, mixLine, mixOptPair, mixOptRect, mixOptRgb, mixPlaces, mixRect, mixRgb, mixSizes, mixStrength, mixU8, pairOr, rectOr, samePair, u8Or};
 
 // ---- the factor
 
@@ -73,11 +73,11 @@ fn held(raw: f32, k: f32) -> f32
     }
 }
 
-// How far a \t from start to end has come at t, with the bits of its acceleration.
-pub fn factor(accel: u32, start: i32, end: i32, t: i32) -> f32
-    ensures { λ v. ⌜ v ≡ factorOf (times start end) (f accel) t end ⌝ }
+// How far a \t with these words for its times has come at t in a line of dur, with the bits of its acceleration.
+pub fn factor(flag: u32, start: u32, end: u32, accel: u32, t: i32, dur: i32) -> f32
+    ensures { λ v. ⌜ v ≡ factorOf (timesOf flag start end) (f accel) t dur ⌝ }
 {
-    let raw = ramp::ramp(start, end, t);
+    let raw = ramp::progress(flag, start, end, t, dur);
     let a = accel_of(float::f32_of_word(accel));
     held(raw, bent(raw, a))
 }
@@ -139,15 +139,6 @@ fn rect_or(a: OptRect, y: ClipRect) -> ClipRect
     }
 }
 
-fn rgb_or(a: OptRgb, y: Rgb) -> Rgb
-    ensures { λ r. ⌜ r ≡ rgbOr a y ⌝ }
-{
-    match a {
-        OptRgb::None => y,
-        OptRgb::Some(x) => x,
-    }
-}
-
 fn u8_or(a: OptU8, y: u8) -> u8
     ensures { λ r. ⌜ r ≡ u8Or a y ⌝ }
 {
@@ -166,11 +157,72 @@ fn i32_or(a: OptI32, y: i32) -> i32
     }
 }
 
+// ---- an option made anew
+
+// An option that is handed on is copied with its unused bytes, and the load behind that waits for the narrow stores. So where a field keeps
+// its option, it is taken apart and made again.
+
+fn same_f32(a: OptF32) -> OptF32
+    ensures { λ r. ⌜ r ≡ a ⌝ }
+{
+    match a {
+        OptF32::None => OptF32::None,
+        OptF32::Some(x) => OptF32::Some(x),
+    }
+}
+
+fn same_pair(a: OptPair) -> OptPair
+    ensures { λ r. ⌜ r ≡ a ⌝ }
+{
+    match a {
+        OptPair::None => OptPair::None,
+        OptPair::Some(x) => OptPair::Some(x),
+    }
+}
+
+fn same_rect(a: OptRect) -> OptRect
+    ensures { λ r. ⌜ r ≡ a ⌝ }
+{
+    match a {
+        OptRect::None => OptRect::None,
+        OptRect::Some(x) => OptRect::Some(x),
+    }
+}
+
+fn same_rgb(a: OptRgb) -> OptRgb
+    ensures { λ r. ⌜ r ≡ a ⌝ }
+{
+    match a {
+        OptRgb::None => OptRgb::None,
+        OptRgb::Some(x) => OptRgb::Some(x),
+    }
+}
+
+fn same_u8(a: OptU8) -> OptU8
+    ensures { λ r. ⌜ r ≡ a ⌝ }
+{
+    match a {
+        OptU8::None => OptU8::None,
+        OptU8::Some(x) => OptU8::Some(x),
+    }
+}
+
+fn same_i32(a: OptI32) -> OptI32
+    ensures { λ r. ⌜ r ≡ a ⌝ }
+{
+    match a {
+        OptI32::None => OptI32::None,
+        OptI32::Some(x) => OptI32::Some(x),
+    }
+}
+
+// ---- an option between two
+
 fn mix_opt_f32(a: OptF32, b: OptF32, k: f32) -> OptF32
     ensures { λ r. ⌜ r ≡ mixF32 a b k ⌝ }
 {
     match b {
-        OptF32::None => a,
+        OptF32::None => same_f32(a),
         OptF32::Some(y) => OptF32::Some(float::lerp_f32(f32_or(a, y), y, k)),
     }
 }
@@ -179,7 +231,7 @@ fn mix_opt_pair(a: OptPair, b: OptPair, k: f32) -> OptPair
     ensures { λ r. ⌜ r ≡ mixOptPair a b k ⌝ }
 {
     match b {
-        OptPair::None => a,
+        OptPair::None => same_pair(a),
         OptPair::Some(y) => OptPair::Some(mix_pair(pair_or(a, y), y, k)),
     }
 }
@@ -188,7 +240,7 @@ fn mix_opt_rect(a: OptRect, b: OptRect, k: f32) -> OptRect
     ensures { λ r. ⌜ r ≡ mixOptRect a b k ⌝ }
 {
     match b {
-        OptRect::None => a,
+        OptRect::None => same_rect(a),
         OptRect::Some(y) => OptRect::Some(mix_rect(rect_or(a, y), y, k)),
     }
 }
@@ -197,8 +249,11 @@ fn mix_opt_rgb(a: OptRgb, b: OptRgb, k: f32) -> OptRgb
     ensures { λ r. ⌜ r ≡ mixOptRgb a b k ⌝ }
 {
     match b {
-        OptRgb::None => a,
-        OptRgb::Some(y) => OptRgb::Some(mix_rgb(rgb_or(a, y), y, k)),
+        OptRgb::None => same_rgb(a),
+        OptRgb::Some(y) => match a {
+            OptRgb::None => OptRgb::Some(mix_rgb(y, y, k)),
+            OptRgb::Some(x) => OptRgb::Some(mix_rgb(x, y, k)),
+        },
     }
 }
 
@@ -206,7 +261,7 @@ fn mix_opt_u8(a: OptU8, b: OptU8, k: f32) -> OptU8
     ensures { λ r. ⌜ r ≡ mixU8 a b k ⌝ }
 {
     match b {
-        OptU8::None => a,
+        OptU8::None => same_u8(a),
         OptU8::Some(y) => OptU8::Some(round_between(u8_or(a, y), y, k)),
     }
 }
@@ -215,7 +270,7 @@ fn mix_opt_i32(a: OptI32, b: OptI32, k: f32) -> OptI32
     ensures { λ r. ⌜ r ≡ mixI32 a b k ⌝ }
 {
     match b {
-        OptI32::None => a,
+        OptI32::None => same_i32(a),
         OptI32::Some(y) => OptI32::Some(float::round_away(float::lerp_f32(
             float::nearest_i32(i32_or(a, 0)),
             float::nearest_i32(y),
@@ -356,25 +411,25 @@ pub fn mix_alphas(a: Alphas, b: Alphas, k: f32) -> Alphas
     }
 }
 
-fn equal_pairs(a: OptPair, b: OptPair) -> bool
-    ensures { λ r. ⌜ r ≡ samePair a b ⌝ }
+// The first pair where the two are equal: a zero may have another sign.
+fn kept_pair(p: Pair, q: Pair) -> Pair
+    ensures { λ r. ⌜ r ≡ pick (samePair (Paired.Some p) (Paired.Some q)) p q ⌝ }
 {
-    match a {
-        OptPair::None => match b {
-            OptPair::None => true,
-            OptPair::Some(_) => false,
-        },
-        OptPair::Some(p) => match b {
-            OptPair::None => false,
-            OptPair::Some(q) => if p.x == q.x { p.y == q.y } else { false },
-        },
+    if p.x == q.x {
+        if p.y == q.y {
+            return p;
+        }
     }
+    q
 }
 
 fn kept_pivot(a: OptPair, b: OptPair) -> OptPair
     ensures { λ r. ⌜ r ≡ pick (samePair a b) a b ⌝ }
 {
-    if equal_pairs(a, b) { a } else { b }
+    match b {
+        OptPair::None => OptPair::None,
+        OptPair::Some(q) => OptPair::Some(kept_pair(pair_or(a, q), q)),
+    }
 }
 
 pub fn mix_line(a: Line, b: Line, k: f32) -> Line

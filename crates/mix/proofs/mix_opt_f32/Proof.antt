@@ -5,6 +5,9 @@ use Rattle.mix.proofs.mix_opt_f32.Tie as tie
 enum-told : tie.Need-enum-told
 enum-told c = search needs
 
+same-f32-requires : tie.Need-same-f32-requires
+same-f32-requires c κs = search needs
+
 enum-known-b : tie.Need-enum-known-b
 enum-known-b c = search needs
 
@@ -22,4 +25,12 @@ returns-2 c = rw (c .before .before .before .b .given .1, c .lerp-f32 .ensures, 
 
 pub mix-opt-f32-spec : {M : Type 1} → statement M
 mix-opt-f32-spec =
-    tie.close (tie.spec enum-told enum-known-b f32-or-requires lerp-f32-requires returns returns-2)
+    tie.close
+    (tie.spec
+    enum-told
+    same-f32-requires
+    enum-known-b
+    f32-or-requires
+    lerp-f32-requires
+    returns
+    returns-2)

@@ -7,6 +7,9 @@ use Rattle.mix.proofs.mix_opt_i32.Tie as tie
 enum-told : tie.Need-enum-told
 enum-told c = search needs
 
+same-i32-requires : tie.Need-same-i32-requires
+same-i32-requires c κs = search needs
+
 enum-known-b : tie.Need-enum-known-b
 enum-known-b c = search needs
 
@@ -39,6 +42,7 @@ mix-opt-i32-spec =
     tie.close
     (tie.spec
     enum-told
+    same-i32-requires
     enum-known-b
     i32-or-requires
     nearest-i32-requires

@@ -5,6 +5,9 @@ use Rattle.mix.proofs.mix_opt_pair.Tie as tie
 enum-told : tie.Need-enum-told
 enum-told c = search needs
 
+same-pair-requires : tie.Need-same-pair-requires
+same-pair-requires c κs = search needs
+
 enum-known-b : tie.Need-enum-known-b
 enum-known-b c = search needs
 
@@ -23,4 +26,11 @@ returns-2 c = rw (c .before .before .before .b .given .1, c .mix-pair .ensures, 
 pub mix-opt-pair-spec : {M : Type 1} → statement M
 mix-opt-pair-spec =
     tie.close
-    (tie.spec enum-told enum-known-b pair-or-requires mix-pair-requires returns returns-2)
+    (tie.spec
+    enum-told
+    same-pair-requires
+    enum-known-b
+    pair-or-requires
+    mix-pair-requires
+    returns
+    returns-2)

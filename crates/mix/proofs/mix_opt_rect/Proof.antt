@@ -5,6 +5,9 @@ use Rattle.mix.proofs.mix_opt_rect.Tie as tie
 enum-told : tie.Need-enum-told
 enum-told c = search needs
 
+same-rect-requires : tie.Need-same-rect-requires
+same-rect-requires c κs = search needs
+
 enum-known-b : tie.Need-enum-known-b
 enum-known-b c = search needs
 
@@ -23,4 +26,11 @@ returns-2 c = rw (c .before .before .before .b .given .1, c .mix-rect .ensures, 
 pub mix-opt-rect-spec : {M : Type 1} → statement M
 mix-opt-rect-spec =
     tie.close
-    (tie.spec enum-told enum-known-b rect-or-requires mix-rect-requires returns returns-2)
+    (tie.spec
+    enum-told
+    same-rect-requires
+    enum-known-b
+    rect-or-requires
+    mix-rect-requires
+    returns
+    returns-2)

@@ -5,6 +5,9 @@ use Rattle.mix.proofs.mix_opt_u8.Tie as tie
 enum-told : tie.Need-enum-told
 enum-told c = search needs
 
+same-u8-requires : tie.Need-same-u8-requires
+same-u8-requires c κs = search needs
+
 enum-known-b : tie.Need-enum-known-b
 enum-known-b c = search needs
 
@@ -22,4 +25,12 @@ returns-2 c = rw (c .before .before .before .b .given .1, c .round-between .ensu
 
 pub mix-opt-u8-spec : {M : Type 1} → statement M
 mix-opt-u8-spec =
-    tie.close (tie.spec enum-told enum-known-b u8-or-requires round-between-requires returns returns-2)
+    tie.close
+    (tie.spec
+    enum-told
+    same-u8-requires
+    enum-known-b
+    u8-or-requires
+    round-between-requires
+    returns
+    returns-2)
