@@ -5,21 +5,20 @@ use mathlib.Core.Bool.{Bool, true, false, true≢false}
 use Prim.Native.Nat.{ℕ, zero, suc, _+_, _-_, _<_}
 use native.Mathlib.Omega.{arith}
 use lib.Dec.{eqb}
-use lib.IntN.{ℤ, pos}
+use lib.IntN.{ℤ}
 use lib.ListN.{List·getD-eq-default}
 use Rattle.tag.specs.declared.Record.{Record}
 use Rattle.tag.specs.WellFormed.{tKind}
 use Rattle.tag.specs.Decode.{decodeOne}
 use Rattle.state.specs.declared.RenderState.{RenderState}
 use lib.Ieee.{Float}
-use borrow.Author.Tests.{eq-eqb, ne-eqb}
-use Rattle.tag.specs.Tag.{Times, times}
-use Rattle.tag.specs.Decode.{f, z, timesOf}
-use Rattle.state.specs.Mix.{startOf, endOf, factor, between}
+use borrow.Author.Tests.{eq-eqb}
+use Rattle.tag.specs.Decode.{f, timesOf}
+use Rattle.state.specs.Mix.{factor, between}
 use Rattle.state.specs.Apply.{applyOwn, applyTags}
 use Rattle.apply.specs.declared.Group.{Group}
 use Rattle.apply.specs.Inner.{groups, groupOf}
-use Rattle.apply.proofs.Groups.{t-kind, kind-t}
+use Rattle.apply.proofs.Groups.{kind-t}
 use Rattle.apply.proofs.Keys.{Missed, from, past}
 use Rattle.table.specs.Inner.{recordIn, ofKind}
 use Rattle.table.proofs.Slices.{record-first}
@@ -45,24 +44,6 @@ unfolding groupOf groups
 no-kind zero m = refl
 no-kind (suc k) m = List·getD-eq-default groups Group.Nothing (past (suc k) 1 49 m (omega arith))
 
--- ---- the times of a T
-
--- times that begin and end alike
-pub record SameTimes (dur : ℤ) (x y : Times) : Type 0 where
-  pub start : startOf x ≡ startOf y
-  pub end : endOf x dur ≡ endOf y dur
-
-same-around : (t dur : ℤ) (ws : List ℕ) (at left : ℕ) (x y : Times) (st : RenderState) → SameTimes dur x y → aroundOf t dur ws at left x st ≡ aroundOf t dur ws at left y st
-unfolding aroundOf factor
-same-around t dur ws at left x y st h = rw (h .start, h .end)
-
--- absent times are from 0 to the line's end
-pub absent-times : (dur : ℤ) (flag a b : ℕ) → flag ≡ 0 → SameTimes dur (times (pos 0) dur) (timesOf flag a b)
-absent-times dur flag a b h = rw (eq-eqb flag 0 h) (record { start = refl; end = refl })
-
-pub given-times : (dur : ℤ) (flag a b : ℕ) {u v : ℤ} → (flag ≡ 0 → ⊥) → u ≡ z a → v ≡ z b → SameTimes dur (times u v) (timesOf flag a b)
-given-times dur flag a b h p q = rw (ne-eqb flag 0 h) (record { start = p; end = q })
-
 module _ {t dur : ℤ} {ws : List ℕ} {first count : ℕ} {st : RenderState} where
   -- the record r of the group g, which is G; what its tag does makes the state next
   pub turn-by : {at left : ℕ} {post next : RenderState} (G : Group) {r : Record} {g : Group} → isT G ≡ false → Looping t dur ws first count st at left post → 0 < left →
@@ -86,28 +67,21 @@ module _ {t dur : ℤ} {ws : List ℕ} {first count : ℕ} {st : RenderState} wh
       loop-plain l z (λ y. absurd (true≢false (sym (eq-eqb k tKind (sym q ∙ ap (λ (x : Record). x .kind) e ∙ y)) ∙ n)))
       (ap (λ (x : Record). applyOwn t dur (decodeOne x) (λ s. s) post) (sym e) ∙ ap (λ (j : ℕ). applyOwn t dur (decodeOne (ofKind j r)) (λ s. s) post) q ∙ h)
 
-  -- the record of a T, with m records inside it and the times x
-  pub turn-around : {at left m : ℕ} {post next : RenderState} {r : Record} {g : Group} (x : Times) → Looping t dur ws first count st at left post → 0 < left →
-      r ≡ recordIn ws at → g ≡ groupOf (r .kind) → g ≡ Group.T → m ≡ insideOf r (left - 1) → SameTimes dur x (timesOf (r .w1) (r .w2) (r .w3)) → next ≡ aroundOf t dur ws at left x post →
-      Looping t dur ws first count st (at + (1 + m)) (left - (1 + m)) next
-  turn-around {at = at} {left = left} {post = post} {r = r} x l z v d k i y h =
+  -- the record of a T, with m records inside it
+  pub turn-around : {at left m : ℕ} {post next : RenderState} {r : Record} → Looping t dur ws first count st at left post → 0 < left →
+      r ≡ recordIn ws at → r .kind ≡ tKind → m ≡ insideOf r (left - 1) → next ≡ aroundOf t dur ws at left post → Looping t dur ws first count st (at + (1 + m)) (left - (1 + m)) next
+  turn-around {at = at} {left = left} {post = post} {r = r} l z v k i h =
       let e : r ≡ recordFrom ws at = v ∙ record-first ws at in
-      let q : recordFrom ws at .kind ≡ tKind = ap (λ (w : Record). w .kind) (sym e) ∙ t-kind (r .kind) (sym d ∙ k) in
-      let p : SameTimes dur x (timesOf (recordFrom ws at .w1) (recordFrom ws at .w2) (recordFrom ws at .w3)) = rw e at y in
-      rw (i, e) (loop-around l z q (h ∙ same-around t dur ws at left x (timesOf (recordFrom ws at .w1) (recordFrom ws at .w2) (recordFrom ws at .w3)) post p))
+      let q : recordFrom ws at .kind ≡ tKind = ap (λ (w : Record). w .kind) (sym e) ∙ k in
+      rw (i, e) (loop-around l z q h)
 
 -- what a T does, from what the calls in it say
-module _ (t dur : ℤ) (ws : List ℕ) (at left : ℕ) (a : ℤ) (b : ℤ) (st : RenderState) where
+module _ (t dur : ℤ) (ws : List ℕ) (at left : ℕ) (st : RenderState) where
   abbrev around : Record → RenderState
-  around r = between (factor (times a b) (f (r .w4)) t dur) st (applyTags t dur (tagsAt ws (at + 1) (insideOf r (left - 1))) st)
-
-  any-end : (x : Float) → factor (times a b) x t b ≡ factor (times a b) x t dur
-  unfolding factor
-  any-end x = refl
+  around r = between (factor (timesOf (r .w1) (r .w2) (r .w3)) (f (r .w4)) t dur) st (applyTags t dur (tagsAt ws (at + 1) (insideOf r (left - 1))) st)
 
   pub around-is : {n : ℕ} {k : Float} {r : Record} {post next : RenderState} →
-      r ≡ recordIn ws at → n ≡ insideOf r (left - 1) → post ≡ applyTags t dur (tagsAt ws (at + 1) n) st → k ≡ factor (times a b) (f (r .w4)) t b → next ≡ between k st post →
-      next ≡ aroundOf t dur ws at left (times a b) st
+      r ≡ recordIn ws at → n ≡ insideOf r (left - 1) → post ≡ applyTags t dur (tagsAt ws (at + 1) n) st → k ≡ factor (timesOf (r .w1) (r .w2) (r .w3)) (f (r .w4)) t dur → next ≡ between k st post → next ≡ aroundOf t dur ws at left st
   unfolding aroundOf
   around-is {k = k} {r = r} v i p q x =
-      x ∙ ap (λ (z : RenderState). between k st z) (p ∙ ap (λ (m : ℕ). applyTags t dur (tagsAt ws (at + 1) m) st) i) ∙ ap (λ (z : Float). between z st (applyTags t dur (tagsAt ws (at + 1) (insideOf r (left - 1))) st)) (q ∙ any-end (f (r .w4))) ∙ ap around (v ∙ record-first ws at)
+      x ∙ ap (λ (z : RenderState). between k st z) (p ∙ ap (λ (m : ℕ). applyTags t dur (tagsAt ws (at + 1) m) st) i) ∙ ap (λ (z : Float). between z st (applyTags t dur (tagsAt ws (at + 1) (insideOf r (left - 1))) st)) q ∙ ap around (v ∙ record-first ws at)

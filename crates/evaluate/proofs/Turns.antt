@@ -150,7 +150,7 @@ module _ {t dur : ℤ} {ws : List ℕ} {first count : ℕ} {st : RenderState} wh
 
   -- a T
   pub loop-around : {at left : ℕ} {post next : RenderState} → Looping t dur ws first count st at left post → 0 < left → recordFrom ws at .kind ≡ tKind →
-      next ≡ aroundOf t dur ws at left (timesOf (recordFrom ws at .w1) (recordFrom ws at .w2) (recordFrom ws at .w3)) post → Looping t dur ws first count st (at + (1 + insideOf (recordFrom ws at) (left - 1))) (left - (1 + insideOf (recordFrom ws at) (left - 1))) next
+      next ≡ aroundOf t dur ws at left post → Looping t dur ws first count st (at + (1 + insideOf (recordFrom ws at) (left - 1))) (left - (1 + insideOf (recordFrom ws at) (left - 1))) next
   unfolding aroundOf
   loop-around {left = zero} l z h e = absurd (omega arith)
   loop-around {at = at} {left = suc n} {post = post} l z h e =

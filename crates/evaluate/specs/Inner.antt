@@ -4,10 +4,10 @@ use Prim.Native.Nat.{ℕ, _+_, _-_, _*_, min}
 use lib.IntN.{ℤ}
 use lib.ListN.{drop}
 use Rattle.tag.specs.declared.Record.{Record}
-use Rattle.tag.specs.Tag.{Times, Tags}
+use Rattle.tag.specs.Tag.{Tags}
 use Rattle.tag.specs.Table.{width}
 use Rattle.tag.specs.WellFormed.{recordAt, recordsTo, holds}
-use Rattle.tag.specs.Decode.{f, decode}
+use Rattle.tag.specs.Decode.{f, timesOf, decode}
 use Rattle.state.specs.declared.RenderState.{RenderState}
 use Rattle.state.specs.Mix.{factor, between}
 use Rattle.state.specs.Apply.{applyTags}
@@ -24,9 +24,9 @@ tagsAt ws at n = decode (recordsTo n (drop (width * at) ws))
 abbrev pub insideOf : Record → ℕ → ℕ
 insideOf r n = min (holds r) n
 
--- what the T with the index at does with the times x, where n records stand from there on
-unfoldable pub aroundOf : ℤ → ℤ → List ℕ → ℕ → ℕ → Times → RenderState → RenderState
+-- what the T with the index at does, where n records stand from there on
+unfoldable pub aroundOf : ℤ → ℤ → List ℕ → ℕ → ℕ → RenderState → RenderState
 unfolding factor between applyTags
-aroundOf t dur ws at n x st =
+aroundOf t dur ws at n st =
     let r = recordFrom ws at in
-    between (factor x (f (r .w4)) t dur) st (applyTags t dur (tagsAt ws (at + 1) (insideOf r (n - 1))) st)
+    between (factor (timesOf (r .w1) (r .w2) (r .w3)) (f (r .w4)) t dur) st (applyTags t dur (tagsAt ws (at + 1) (insideOf r (n - 1))) st)

@@ -2,7 +2,6 @@
 ghost use mathlib.Core.Path.{_≡_};
 ghost use Prim.Native.Nat.{_<_};
 ghost use Rattle.table.specs.Inner.{Inside};
-ghost use Rattle.tag.specs.Tag.{times};
 ghost use Rattle.state.specs.Apply.{applyTags};
 ghost use Rattle.evaluate.specs.Inner.{tagsAt, insideOf, aroundOf};
 ghost use Rattle.evaluate.specs.Evaluate.{evaluated};
@@ -33,32 +32,30 @@ pub enum Evaluated {
 }
 
 // How many of the n records behind a T are inside it.
-fn inside(r: Record, n: usize) -> usize
+pub fn inside(r: Record, n: usize) -> usize
     ensures { λ m. ⌜ m ≡ insideOf r n ⌝ }
 {
     let m = r.w5 as usize;
     if m < n { m } else { n }
 }
 
-// The T at the index `at` from start to end, with `left` records from there on: part of the way from the state a to what the tags inside it
-// make of it. As in the Rust, each group of fields goes over by itself.
-fn apply_t(
+// The T at the index `at`, with `left` records from there on: part of the way from the state a to what the tags inside it make of it. As in
+// the Rust, each group of fields goes over by itself.
+pub fn apply_t(
     table: &[u32],
     at: usize,
     left: usize,
-    start: i32,
-    end: i32,
     a: RenderState,
     t: i32,
     dur: i32,
 ) -> RenderState
     requires { ⌜ (0 < left) × Inside (now table) at left ⌝ }
-    ensures { λ r. ⌜ r ≡ aroundOf t dur (now (table .entry)) at left (times start end) a ⌝ }
+    ensures { λ r. ⌜ r ≡ aroundOf t dur (now (table .entry)) at left a ⌝ }
 {
     let r = table::record_at(table, at);
     let words = table;
     let b = apply_tags(words, at + 1, inside(r, left - 1), a, t, dur);
-    let k = mix::factor(r.w4, start, end, t);
+    let k = mix::factor(r.w1, r.w2, r.w3, r.w4, t, dur);
     let a_always = a.always;
     let b_always = b.always;
     let a_places = a.places;
@@ -411,24 +408,9 @@ fn apply_tags(
             49 => {
                 let n = 1 + inside(r, left - 1);
                 let words = table;
-                if r.w1 == 0 {
-                    post = apply_t(words, at, left, 0, dur, post, t, dur);
-                    at += n;
-                    left -= n;
-                } else {
-                    post = apply_t(
-                        words,
-                        at,
-                        left,
-                        float::of_word(r.w2),
-                        float::of_word(r.w3),
-                        post,
-                        t,
-                        dur,
-                    );
-                    at += n;
-                    left -= n;
-                }
+                post = apply_t(words, at, left, post, t, dur);
+                at += n;
+                left -= n;
             }
             _ => {
                 at += 1;
@@ -439,447 +421,9 @@ fn apply_tags(
     post
 }
 
-// 01, Evaluation: the state at t of the tags that the table stands for, in a line of dur milliseconds. The loop of `apply_tags` over all
-// records, from no override on, in which a record is checked in the arm of its kind before its tag is applied: the first at fault ends it.
+// 01, Evaluation: the state at t of the tags that the table stands for, in a line of dur milliseconds. The table is looked over before
+// anything is worked out.
 pub fn evaluate_at(table: &[u32], t: i32, dur: i32) -> Evaluated
-    ensures { λ r. ⌜ r ≡ evaluated (now (table .entry)) t dur ⌝ }
-{
-    let mut post = state::identity();
-    let mut at = 0;
-    let end = scan::least(table.len() / 8, 1024);
-    while at < end {
-        let r = table::record_at(table, at);
-        let kind = r.kind;
-        match kind {
-            1 => {
-                if !table::numbers_fit(r, 2147483647, 2147483647) {
-                    return Evaluated::Refused(Refusal::TableMalformed(at));
-                }
-                let s = post.always;
-                post.always = apply::fad(s, table::record_at(table, at), t, dur);
-                at += 1;
-            }
-            2 => {
-                if !table::fade_fits(r) {
-                    return Evaluated::Refused(Refusal::TableMalformed(at));
-                }
-                let s = post.always;
-                post.always = apply::fade(s, table::record_at(table, at), t);
-                at += 1;
-            }
-            3 => {
-                if !table::pair_fits(r) {
-                    return Evaluated::Refused(Refusal::TableMalformed(at));
-                }
-                let s = post.places;
-                post.places = set::set_translate(s, some_pair(r.w1, r.w2));
-                at += 1;
-            }
-            4 => {
-                if !table::move_fits(r) {
-                    return Evaluated::Refused(Refusal::TableMalformed(at));
-                }
-                let s = post.places;
-                post.places = set::set_translate(
-                    s,
-                    apply::moved(table::record_at(table, at), t, dur),
-                );
-                at += 1;
-            }
-            5 => {
-                if !table::float_fits(r) {
-                    return Evaluated::Refused(Refusal::TableMalformed(at));
-                }
-                let s = post.always;
-                post.always = set::set_rotate_radians(s, apply::radians(r.w1));
-                at += 1;
-            }
-            6 => {
-                if !table::float_fits(r) {
-                    return Evaluated::Refused(Refusal::TableMalformed(at));
-                }
-                let s = post.always;
-                post.always = set::set_blur_sigma(s, apply::above_zero(r.w1));
-                at += 1;
-            }
-            7 => {
-                if !table::float_fits(r) {
-                    return Evaluated::Refused(Refusal::TableMalformed(at));
-                }
-                let s = post.always;
-                post.always = apply::scale_x(s, r.w1);
-                at += 1;
-            }
-            8 => {
-                if !table::float_fits(r) {
-                    return Evaluated::Refused(Refusal::TableMalformed(at));
-                }
-                let s = post.always;
-                post.always = apply::scale_y(s, r.w1);
-                at += 1;
-            }
-            9 => {
-                if !table::colour_fits(r) {
-                    return Evaluated::Refused(Refusal::TableMalformed(at));
-                }
-                let s = post.colors;
-                post.colors = set::set_primary_color(s, some_rgb(table::record_at(table, at)));
-                at += 1;
-            }
-            10 => {
-                if !table::float_fits(r) {
-                    return Evaluated::Refused(Refusal::TableMalformed(at));
-                }
-                let s = post.sizes;
-                post.sizes = set::set_font_size(s, some_f32(r.w1));
-                at += 1;
-            }
-            11 => {
-                if !table::rect_fits(r) {
-                    return Evaluated::Refused(Refusal::TableMalformed(at));
-                }
-                let s = post.clips;
-                post.clips = set::set_clip_rect(s, some_rect(table::record_at(table, at)));
-                at += 1;
-            }
-            12 => {
-                if !table::drawing_fits(r) {
-                    return Evaluated::Refused(Refusal::TableMalformed(at));
-                }
-                let s = post.line;
-                post.line = set::set_clip_drawing(s, some_part(r.w1, r.w2));
-                at += 1;
-            }
-            13 => {
-                if !table::float_fits(r) {
-                    return Evaluated::Refused(Refusal::TableMalformed(at));
-                }
-                let s = post.always;
-                post.always = set::set_rotate_x_radians(s, apply::radians(r.w1));
-                at += 1;
-            }
-            14 => {
-                if !table::float_fits(r) {
-                    return Evaluated::Refused(Refusal::TableMalformed(at));
-                }
-                let s = post.always;
-                post.always = set::set_rotate_y_radians(s, apply::radians(r.w1));
-                at += 1;
-            }
-            15 => {
-                if !table::pair_fits(r) {
-                    return Evaluated::Refused(Refusal::TableMalformed(at));
-                }
-                let s = post.line;
-                post.line = set::set_pivot(s, some_pair(r.w1, r.w2));
-                at += 1;
-            }
-            16 => {
-                if !table::float_fits(r) {
-                    return Evaluated::Refused(Refusal::TableMalformed(at));
-                }
-                let s = post.places;
-                post.places = set::set_border(s, both(apply::above_zero(r.w1)));
-                at += 1;
-            }
-            17 => {
-                if !table::float_fits(r) {
-                    return Evaluated::Refused(Refusal::TableMalformed(at));
-                }
-                let s = post.places;
-                let border = s.border;
-                post.places = set::set_border(s, with_x(border, apply::above_zero(r.w1)));
-                at += 1;
-            }
-            18 => {
-                if !table::float_fits(r) {
-                    return Evaluated::Refused(Refusal::TableMalformed(at));
-                }
-                let s = post.places;
-                let border = s.border;
-                post.places = set::set_border(s, with_y(border, apply::above_zero(r.w1)));
-                at += 1;
-            }
-            19 => {
-                if !table::float_fits(r) {
-                    return Evaluated::Refused(Refusal::TableMalformed(at));
-                }
-                let s = post.places;
-                post.places = set::set_shadow(s, both(apply::above_zero(r.w1)));
-                at += 1;
-            }
-            20 => {
-                if !table::float_fits(r) {
-                    return Evaluated::Refused(Refusal::TableMalformed(at));
-                }
-                let s = post.places;
-                let shadow = s.shadow;
-                post.places = set::set_shadow(s, with_x(shadow, float::f32_of_word(r.w1)));
-                at += 1;
-            }
-            21 => {
-                if !table::float_fits(r) {
-                    return Evaluated::Refused(Refusal::TableMalformed(at));
-                }
-                let s = post.places;
-                let shadow = s.shadow;
-                post.places = set::set_shadow(s, with_y(shadow, float::f32_of_word(r.w1)));
-                at += 1;
-            }
-            22 => {
-                if !table::number_fits(r, 0, 255) {
-                    return Evaluated::Refused(Refusal::TableMalformed(at));
-                }
-                let s = post.always;
-                post.always = set::set_be_strength(s, byte(r.w1));
-                at += 1;
-            }
-            23 => {
-                if !table::float_fits(r) {
-                    return Evaluated::Refused(Refusal::TableMalformed(at));
-                }
-                let s = post.always;
-                post.always = apply::shear_x(s, r.w1);
-                at += 1;
-            }
-            24 => {
-                if !table::float_fits(r) {
-                    return Evaluated::Refused(Refusal::TableMalformed(at));
-                }
-                let s = post.always;
-                post.always = apply::shear_y(s, r.w1);
-                at += 1;
-            }
-            25 => {
-                if !table::rect_fits(r) {
-                    return Evaluated::Refused(Refusal::TableMalformed(at));
-                }
-                let s = post.clips;
-                post.clips = set::set_iclip_rect(s, some_rect(table::record_at(table, at)));
-                at += 1;
-            }
-            26 => {
-                if !table::drawing_fits(r) {
-                    return Evaluated::Refused(Refusal::TableMalformed(at));
-                }
-                let s = post.line;
-                post.line = set::set_iclip_drawing(s, some_part(r.w1, r.w2));
-                at += 1;
-            }
-            27 => {
-                if !table::colour_fits(r) {
-                    return Evaluated::Refused(Refusal::TableMalformed(at));
-                }
-                let s = post.colors;
-                post.colors = set::set_secondary_color(s, some_rgb(table::record_at(table, at)));
-                at += 1;
-            }
-            28 => {
-                if !table::colour_fits(r) {
-                    return Evaluated::Refused(Refusal::TableMalformed(at));
-                }
-                let s = post.colors;
-                post.colors = set::set_outline_color(s, some_rgb(table::record_at(table, at)));
-                at += 1;
-            }
-            29 => {
-                if !table::colour_fits(r) {
-                    return Evaluated::Refused(Refusal::TableMalformed(at));
-                }
-                let s = post.colors;
-                post.colors = set::set_shadow_color(s, some_rgb(table::record_at(table, at)));
-                at += 1;
-            }
-            30 => {
-                if !table::number_fits(r, 0, 255) {
-                    return Evaluated::Refused(Refusal::TableMalformed(at));
-                }
-                post.alphas = apply::all_alphas(r.w1);
-                at += 1;
-            }
-            31 => {
-                if !table::number_fits(r, 0, 255) {
-                    return Evaluated::Refused(Refusal::TableMalformed(at));
-                }
-                let s = post.alphas;
-                post.alphas = set::set_primary_alpha(s, some_u8(r.w1));
-                at += 1;
-            }
-            32 => {
-                if !table::number_fits(r, 0, 255) {
-                    return Evaluated::Refused(Refusal::TableMalformed(at));
-                }
-                let s = post.alphas;
-                post.alphas = set::set_secondary_alpha(s, some_u8(r.w1));
-                at += 1;
-            }
-            33 => {
-                if !table::number_fits(r, 0, 255) {
-                    return Evaluated::Refused(Refusal::TableMalformed(at));
-                }
-                let s = post.alphas;
-                post.alphas = set::set_outline_alpha(s, some_u8(r.w1));
-                at += 1;
-            }
-            34 => {
-                if !table::number_fits(r, 0, 255) {
-                    return Evaluated::Refused(Refusal::TableMalformed(at));
-                }
-                let s = post.alphas;
-                post.alphas = set::set_shadow_alpha(s, some_u8(r.w1));
-                at += 1;
-            }
-            35 => {
-                if !table::float_fits(r) {
-                    return Evaluated::Refused(Refusal::TableMalformed(at));
-                }
-                let s = post.sizes;
-                post.sizes = set::set_letter_spacing(s, some_f32(r.w1));
-                at += 1;
-            }
-            36 => {
-                if !table::number_fits(r, 0, 3) {
-                    return Evaluated::Refused(Refusal::TableMalformed(at));
-                }
-                let s = post.line;
-                post.line = apply::wrapped(s, r.w1);
-                at += 1;
-            }
-            37 => {
-                if !table::number_fits(r, 1, 9) {
-                    return Evaluated::Refused(Refusal::TableMalformed(at));
-                }
-                let s = post.line;
-                post.line = apply::aligned(s, r.w1);
-                at += 1;
-            }
-            38 => {
-                if !table::number_fits(r, 0, 255) {
-                    return Evaluated::Refused(Refusal::TableMalformed(at));
-                }
-                let s = post.line;
-                post.line = apply::aligned(s, numpad(r.w1));
-                at += 1;
-            }
-            39 => {
-                if !table::font_fits(r) {
-                    return Evaluated::Refused(Refusal::TableMalformed(at));
-                }
-                let s = post.font;
-                post.font = set::set_font_name(s, some_name(table::record_at(table, at)));
-                at += 1;
-            }
-            40 => {
-                if !table::number_fits(r, 0, 255) {
-                    return Evaluated::Refused(Refusal::TableMalformed(at));
-                }
-                let s = post.font;
-                post.font = set::set_font_encoding(s, some_u8(r.w1));
-                at += 1;
-            }
-            41 => {
-                if !table::reset_fits(r) {
-                    return Evaluated::Refused(Refusal::TableMalformed(at));
-                }
-                post = apply::reset(table::record_at(table, at));
-                at += 1;
-            }
-            42 => {
-                if !table::weight_fits(r) {
-                    return Evaluated::Refused(Refusal::TableMalformed(at));
-                }
-                let s = post.font;
-                post.font = set::set_bold_weight(s, some_u16(r.w1));
-                at += 1;
-            }
-            43 => {
-                if !table::number_fits(r, 0, 1) {
-                    return Evaluated::Refused(Refusal::TableMalformed(at));
-                }
-                let s = post.font;
-                post.font = set::set_italic(s, some_bool(r.w1));
-                at += 1;
-            }
-            44 => {
-                if !table::number_fits(r, 0, 1) {
-                    return Evaluated::Refused(Refusal::TableMalformed(at));
-                }
-                let s = post.font;
-                post.font = set::set_underline(s, some_bool(r.w1));
-                at += 1;
-            }
-            45 => {
-                if !table::number_fits(r, 0, 1) {
-                    return Evaluated::Refused(Refusal::TableMalformed(at));
-                }
-                let s = post.font;
-                post.font = set::set_strikeout(s, some_bool(r.w1));
-                at += 1;
-            }
-            46 => {
-                if !table::numbers_fit(r, 2, 1000000000) {
-                    return Evaluated::Refused(Refusal::TableMalformed(at));
-                }
-                at += 1;
-            }
-            47 => {
-                if !table::shift_fits(r) {
-                    return Evaluated::Refused(Refusal::TableMalformed(at));
-                }
-                let s = post.sizes;
-                post.sizes = set::set_drawing_baseline_offset(
-                    s,
-                    OptI32::Some(float::of_word(r.w1)),
-                );
-                at += 1;
-            }
-            48 => {
-                if !table::number_fits(r, 0, 255) {
-                    return Evaluated::Refused(Refusal::TableMalformed(at));
-                }
-                let s = post.line;
-                post.line = set::set_drawing_scale(s, some_u8(r.w1));
-                at += 1;
-            }
-            49 => {
-                let left = end - at;
-                let words = table;
-                if let Checked::Bad(x) = table::t_fault(words, at, left, r) {
-                    return Evaluated::Refused(x);
-                }
-                let n = 1 + inside(r, left - 1);
-                let flag = r.w1;
-                if flag == 0 {
-                    post = apply_t(words, at, left, 0, dur, post, t, dur);
-                    at += n;
-                } else {
-                    post = apply_t(
-                        words,
-                        at,
-                        left,
-                        float::of_word(r.w2),
-                        float::of_word(r.w3),
-                        post,
-                        t,
-                        dur,
-                    );
-                    at += n;
-                }
-            }
-            _ => {
-                return Evaluated::Refused(Refusal::TableMalformed(at));
-            }
-        }
-    }
-    match table::after_records(table, t, dur) {
-        Checked::Bad(x) => Evaluated::Refused(x),
-        Checked::Good => Evaluated::State(post),
-    }
-}
-
-// The same in two steps, the table looked over and then its tags applied: for callers other than the C call of evaluation, into which the
-// compiler puts the loop above only as long as it is the one caller.
-pub fn evaluate_in_steps(table: &[u32], t: i32, dur: i32) -> Evaluated
     ensures { λ r. ⌜ r ≡ evaluated (now (table .entry)) t dur ⌝ }
 {
     match table::check_call(table, t, dur) {

@@ -1,14 +1,13 @@
 -- Words stored one after the other, joined.
 use mathlib.Core.Path.{_≡_, refl, sym, ap, _∙_}
-use mathlib.Core.List.{List, [], _∷_, _++_}
-use Prim.Native.Nat.{ℕ, suc, _+_, _≤_, _<_}
+use mathlib.Core.List.{List, [], _∷_, _++_, append-nil}
+use Prim.Native.Nat.{ℕ, suc, _+_, _≤_}
 use native.Mathlib.Numerals.{add-one}
 use native.Mathlib.Nat.{add-suc}
 use native.Mathlib.Omega.{arith}
 use lib.ListN.{length, set, length-append}
-use lib.Seq.{sets, sets-eq}
-use borrow.Author.Tests.{le-leb, lt-leb}
-use Rattle.words.specs.Words.{optF32, optPair, optRect, optRgb, optU8, optU16, optI32, optBool, optPart, optName, optReset, wordsFrom0, wordsFrom18, wordsFrom44, wordsFrom70, stateWords, written}
+use lib.Seq.{sets, sets-eq, drop-length}
+use Rattle.words.specs.Words.{optF32, optPair, optRect, optRgb, optU8, optU16, optI32, optBool, optPart, optName, optReset, wordsFrom0, wordsFrom18, wordsFrom44, wordsFrom70, stateWords}
 use Rattle.state.specs.declared.OptF32.{OptF32}
 use Rattle.state.specs.declared.OptPair.{OptPair}
 use Rattle.state.specs.declared.OptRect.{OptRect}
@@ -133,14 +132,21 @@ pub wide-state : (st : RenderState) → length (stateWords st) ≡ 92
 unfolding stateWords
 wide-state st = simp (length-append, wide-optF32, wide-optPair, wide-optRect, wide-optRgb, wide-optU8, wide-optU16, wide-optI32, wide-optBool, wide-optPart, wide-optName, wide-optReset)
 
--- at the front, with room for all
-pub written-room : (t ws u : List ℕ) → length ws ≤ length t → u ≡ putAt t 0 ws → u ≡ written t ws
-unfolding putAt written
-written-room t ws u h e =
+-- written over as many words
+over : (t ws u : List ℕ) → length ws ≡ length t → u ≡ putAt t 0 ws → u ≡ ws
+unfolding putAt
+over t ws u h e =
     let l : 0 + length ws ≤ length t = omega arith in
-    let z : 0 + length ws ≡ length ws = omega arith in
-    e ∙ sets-eq ws t 0 l ∙ rw (z, le-leb (length ws) (length t) h)
+    let z : 0 + length ws ≡ length t = omega arith in
+    e ∙ sets-eq ws t 0 l ∙ rw (z, drop-length t, append-nil ws)
 
-pub written-none : (t ws : List ℕ) → length t < length ws → t ≡ written t ws
-unfolding written
-written-none t ws h = rw (lt-leb (length ws) (length t) h)
+-- the four parts over 92 words
+pub whole : (v a b c u : List ℕ) (st : RenderState) → length v ≡ 92 →
+    a ≡ putAt v 0 (wordsFrom0 st) → b ≡ putAt a 18 (wordsFrom18 st) → c ≡ putAt b 44 (wordsFrom44 st) → u ≡ putAt c 70 (wordsFrom70 st) → u ≡ stateWords st
+unfolding stateWords
+whole v a b c u st n p q r s =
+    let r0 = first (wordsFrom0 st) 18 (wide-from0 st) p in
+    let r1 = next (wordsFrom18 st) 26 (wide-from18 st) r0 q in
+    let r2 = next (wordsFrom44 st) 26 (wide-from44 st) r1 r in
+    let r3 = next (wordsFrom70 st) 22 (wide-from70 st) r2 s in
+    over v (stateWords st) u (wide-state st ∙ sym n) (r3 .is)

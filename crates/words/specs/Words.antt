@@ -3,10 +3,7 @@
 use Prim.Native.Nat.{ℕ}
 use mathlib.Core.Bool.{Bool, true, false}
 use mathlib.Core.List.{List, [], _∷_, _++_}
-use lib.Dec.{leb}
 use lib.Ieee.{Float}
-use lib.ListN.{length, drop}
-use Rattle.scan.specs.Scan.{pick}
 use Rattle.float.specs.Float.{toWord}
 use Rattle.rows.specs.Rows.{bits}
 use Rattle.state.specs.declared.Pair.{Pair}
@@ -140,7 +137,3 @@ wordsFrom70 st =
 
 unfoldable pub stateWords : RenderState → List ℕ
 stateWords st = wordsFrom0 st ++ wordsFrom18 st ++ wordsFrom44 st ++ wordsFrom70 st
-
--- a table with the words written at its front, every word behind them as it was; the table itself where it has no room for them
-unfoldable pub written : List ℕ → List ℕ → List ℕ
-written t ws = pick (leb (length ws) (length t)) (ws ++ drop (length ws) t) t

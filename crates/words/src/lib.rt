@@ -4,7 +4,7 @@ ghost use mathlib.Core.List.{[], _∷_};
 ghost use Prim.Native.Nat.{_+_, _≤_};
 ghost use lib.ListN.{length};
 ghost use Rattle.words.specs.Words as Words;
-ghost use Rattle.words.specs.Words.{wordsFrom0, wordsFrom18, wordsFrom44, wordsFrom70, stateWords, written};
+ghost use Rattle.words.specs.Words.{wordsFrom0, wordsFrom18, wordsFrom44, wordsFrom70};
 ghost use Rattle.words.specs.Inner.{putAt};
 use state::OptBool;
 use state::OptF32;
@@ -232,10 +232,10 @@ fn put_opt_reset(out: &mut [u32], at: usize, o: OptReset)
     }
 }
 
-// ---- the state
+// ---- the state, in four parts: a function that writes one right behind another keeps few fields at hand
 
 // alpha_mul to clip_drawing
-fn put_from_0(out: &mut [u32], st: RenderState)
+pub fn put_from_0(out: &mut [u32], st: RenderState)
     requires { ⌜ 92 ≤ length (now out) ⌝ }
     ensures { λ _. ⌜ now (out .exit) ≡ putAt (now (out .entry)) 0 (wordsFrom0 st) ⌝ }
 {
@@ -259,7 +259,7 @@ fn put_from_0(out: &mut [u32], st: RenderState)
 }
 
 // primary_color to iclip_drawing
-fn put_from_18(out: &mut [u32], st: RenderState)
+pub fn put_from_18(out: &mut [u32], st: RenderState)
     requires { ⌜ 92 ≤ length (now out) ⌝ }
     ensures { λ _. ⌜ now (out .exit) ≡ putAt (now (out .entry)) 18 (wordsFrom18 st) ⌝ }
 {
@@ -289,7 +289,7 @@ fn put_from_18(out: &mut [u32], st: RenderState)
 }
 
 // secondary_color to alignment
-fn put_from_44(out: &mut [u32], st: RenderState)
+pub fn put_from_44(out: &mut [u32], st: RenderState)
     requires { ⌜ 92 ≤ length (now out) ⌝ }
     ensures { λ _. ⌜ now (out .exit) ≡ putAt (now (out .entry)) 44 (wordsFrom44 st) ⌝ }
 {
@@ -320,7 +320,7 @@ fn put_from_44(out: &mut [u32], st: RenderState)
 }
 
 // font_name to drawing_scale
-fn put_from_70(out: &mut [u32], st: RenderState)
+pub fn put_from_70(out: &mut [u32], st: RenderState)
     requires { ⌜ 92 ≤ length (now out) ⌝ }
     ensures { λ _. ⌜ now (out .exit) ≡ putAt (now (out .entry)) 70 (wordsFrom70 st) ⌝ }
 {
@@ -345,16 +345,4 @@ fn put_from_70(out: &mut [u32], st: RenderState)
     put_opt_i32(out, 88, drawing_baseline_offset);
     let drawing_scale = line.drawing_scale;
     put_opt_u8(out, 90, drawing_scale);
-}
-
-// Writes the state's words at the front, where there is room for all of them.
-pub fn write_state(out: &mut [u32], st: RenderState)
-    ensures { λ _. ⌜ now (out .exit) ≡ written (now (out .entry)) (stateWords st) ⌝ }
-{
-    if 92 <= out.len() {
-        put_from_0(out, st);
-        put_from_18(out, st);
-        put_from_44(out, st);
-        put_from_70(out, st);
-    }
 }

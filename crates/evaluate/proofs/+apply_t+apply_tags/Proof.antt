@@ -11,10 +11,10 @@ use Rattle.apply.specs.declared.Group.{Group}
 use Rattle.tag.specs.Decode.{decodeOne, decoders}
 use Rattle.state.specs.Apply.{applyOwn}
 use Rattle.apply.specs.Inner.{resetBy}
-use Rattle.apply.proofs.Groups.{nothing-law, kind-t}
+use Rattle.apply.proofs.Groups.{nothing-law}
 use Rattle.ramp.proofs.Ints.{answered}
 use Rattle.evaluate.proofs.Turns.{Looping, loop-start, loop-done}
-use Rattle.evaluate.proofs.Arms.{turn-by, turn-kind, no-kind, absent-times, given-times, turn-around, around-is}
+use Rattle.evaluate.proofs.Arms.{turn-by, turn-kind, no-kind, turn-around, around-is}
 use Prim.Native.Nat.{ℕ, _<_, _≤_, _+_, _-_, _*_}
 use borrow.Fn.Kinds.{In}
 use borrow.Fn.PlainCycle.{Measures, is, falls, and}
@@ -288,8 +288,8 @@ apply-t-returns t c =
     let s = c .before .before .before .before .before .before .before .before .before .before .before .before .before .before .before .before .before .before .before .before .before .before .before .before .before .before .before .before .before in
     let a = s .args in
     let r : _≡_ {A = RenderState} (record { always = c .before .before .before .before .before .before .before .mix-always .result; places = c .before .before .before .before .before .before .mix-places .result; clips = c .before .before .before .before .before .mix-clips .result; sizes = c .before .before .before .before .mix-sizes .result; colors = c .before .before .before .mix-colors .result; alphas = c .before .before .mix-alphas .result; line = c .before .mix-line .result; font = c .mix-font .result }) (between (c .before .before .before .before .before .before .before .before .before .before .before .before .before .before .before .before .before .before .before .before .before .before .before .before .factor .result) (a .a) (c .before .before .before .before .before .before .before .before .before .before .before .before .before .before .before .before .before .before .before .before .before .before .before .before .before .apply-tags .result)) = rw (c .mix-font .ensures, c .before .mix-line .ensures, c .before .before .mix-alphas .ensures, c .before .before .before .mix-colors .ensures, c .before .before .before .before .mix-sizes .ensures, c .before .before .before .before .before .mix-clips .ensures, c .before .before .before .before .before .before .mix-places .ensures, c .before .before .before .before .before .before .before .mix-always .ensures) in
-    let e = around-is (toZ w32 (ofZ w32 (a .t))) (toZ w32 (ofZ w32 (a .dur))) (a .table .now) (a .at) (a .left) (toZ w32 (ofZ w32 (a .start))) (toZ w32 (ofZ w32 (a .end))) (a .a) (c .before .before .before .before .before .before .before .before .before .before .before .before .before .before .before .before .before .before .before .before .before .before .before .before .before .before .before .record-at .ensures) (c .before .before .before .before .before .before .before .before .before .before .before .before .before .before .before .before .before .before .before .before .before .before .before .before .before .before .inside .ensures) (c .before .before .before .before .before .before .before .before .before .before .before .before .before .before .before .before .before .before .before .before .before .before .before .before .before .apply-tags .ensures) (c .before .before .before .before .before .before .before .before .before .before .before .before .before .before .before .before .before .before .before .before .before .before .before .before .factor .ensures) r in
-    rw (toZ-ofZ w32 (a .t) (s .fits .t), toZ-ofZ w32 (a .dur) (s .fits .dur), toZ-ofZ w32 (a .start) (s .fits .start), toZ-ofZ w32 (a .end) (s .fits .end)) at e
+    let e = around-is (toZ w32 (ofZ w32 (a .t))) (toZ w32 (ofZ w32 (a .dur))) (a .table .now) (a .at) (a .left) (a .a) (c .before .before .before .before .before .before .before .before .before .before .before .before .before .before .before .before .before .before .before .before .before .before .before .before .before .before .before .record-at .ensures) (c .before .before .before .before .before .before .before .before .before .before .before .before .before .before .before .before .before .before .before .before .before .before .before .before .before .before .inside .ensures) (c .before .before .before .before .before .before .before .before .before .before .before .before .before .before .before .before .before .before .before .before .before .before .before .before .before .apply-tags .ensures) (c .before .before .before .before .before .before .before .before .before .before .before .before .before .before .before .before .before .before .before .before .before .before .before .before .factor .ensures) r in
+    rw (toZ-ofZ w32 (a .t) (s .fits .t), toZ-ofZ w32 (a .dur) (s .fits .dur)) at e
 
 apply-tags-loop-again : (t : ℕ) → apply-tags-lts.Need-loop-again (calls-tags t) (apply-tags-at t) apply-tags.Post apply-tags-Inv-loop apply-tags-μ-loop
 unfolding applyOwn decodeOne decoders
@@ -484,31 +484,19 @@ unfolding applyOwn decodeOne decoders
 apply-tags-loop-again-48 t c = turn-kind 48 refl (c .before .before .before .before .before .before .loop .inv) (c .before .before .before .before .before .loop-test .taken) (c .before .before .before .before .record-at .ensures) (c .before .before .before .match .keys48) (ap (withLine (c .before .before .before .before .before .before .loop .post)) (sym (rw (c .before .some-u86 .ensures) at (c .set-drawing-scale .ensures))))
 
 apply-tags-loop-again-49 : (t : ℕ) → apply-tags-lts.Need-loop-again-49 (calls-tags t) (apply-tags-at t) apply-tags.Post apply-tags-Inv-loop apply-tags-μ-loop
-apply-tags-loop-again-49 t c = turn-around _ (c .before .before .before .before .before .before .before .loop .inv) (c .before .before .before .before .before .before .loop-test .taken) (c .before .before .before .before .before .record-at .ensures) (sym (kind-t _ (c .before .before .before .before .match .keys49))) refl (c .before .before .before .inside .ensures) (absent-times _ _ _ _ (c .before .if1 .taken)) (c .apply-t .ensures)
+apply-tags-loop-again-49 t c = turn-around (c .before .before .before .before .before .loop .inv) (c .before .before .before .before .loop-test .taken) (c .before .before .before .record-at .ensures) (c .before .before .match .keys49) (c .before .inside .ensures) (c .apply-t .ensures)
 
 apply-tags-loop-again-50 : (t : ℕ) → apply-tags-lts.Need-loop-again-50 (calls-tags t) (apply-tags-at t) apply-tags.Post apply-tags-Inv-loop apply-tags-μ-loop
-apply-tags-loop-again-50 t c = turn-around _ (c .before .before .before .before .before .before .before .before .before .loop .inv) (c .before .before .before .before .before .before .before .before .loop-test .taken) (c .before .before .before .before .before .before .before .record-at .ensures) (sym (kind-t _ (c .before .before .before .before .before .before .match .keys49))) refl (c .before .before .before .before .before .inside .ensures) (given-times _ _ _ _ (c .before .before .before .if1 .left) (answered (c .before .before .of-word2 .result) (c .before .before .of-word2 .ok) ∙ c .before .before .of-word2 .ensures) (answered (c .before .of-word3 .result) (c .before .of-word3 .ok) ∙ c .before .of-word3 .ensures)) (c .apply-t2 .ensures)
-
-apply-tags-loop-again-51 : (t : ℕ) → apply-tags-lts.Need-loop-again-51 (calls-tags t) (apply-tags-at t) apply-tags.Post apply-tags-Inv-loop apply-tags-μ-loop
-apply-tags-loop-again-51 t c = turn-by Group.Nothing refl (c .before .before .before .loop .inv) (c .before .before .loop-test .taken) (c .before .record-at .ensures) refl (no-kind _ (c .match .rest)) (nothing-law _ _ _ _ _)
+apply-tags-loop-again-50 t c = turn-by Group.Nothing refl (c .before .before .before .loop .inv) (c .before .before .loop-test .taken) (c .before .record-at .ensures) refl (no-kind _ (c .match .rest)) (nothing-law _ _ _ _ _)
 
 apply-tags-add-at-49 : (t : ℕ) → apply-tags-lts.Need-add-at-49 (calls-tags t) (apply-tags-at t) apply-tags.Post apply-tags-Inv-loop apply-tags-μ-loop
-apply-tags-add-at-49 t c = omega (arith, c .before .before .before .before .before .before .before .loop .inv .end, c .before .before .before .inside .ensures, c .before .before .before .before .before .before .loop-test .taken, c .before .before .before .before .before .before .before .before .before .pre, c .before .before .before .before .before .before .before .before .before .good .0)
+apply-tags-add-at-49 t c = omega (arith, c .before .before .before .before .before .loop .inv .end, c .before .inside .ensures, c .before .before .before .before .loop-test .taken, c .before .before .before .before .before .before .before .pre, c .before .before .before .before .before .before .before .good .0)
 
 apply-tags-sub-left-49 : (t : ℕ) → apply-tags-lts.Need-sub-left-49 (calls-tags t) (apply-tags-at t) apply-tags.Post apply-tags-Inv-loop apply-tags-μ-loop
-apply-tags-sub-left-49 t c = omega (arith, c .before .before .before .before .before .before .before .loop .inv .end, c .before .before .before .inside .ensures, c .before .before .before .before .before .before .loop-test .taken, c .before .before .before .before .before .before .before .before .before .pre, c .before .before .before .before .before .before .before .before .before .good .0)
+apply-tags-sub-left-49 t c = omega (arith, c .before .before .before .before .before .loop .inv .end, c .before .inside .ensures, c .before .before .before .before .loop-test .taken, c .before .before .before .before .before .before .before .pre, c .before .before .before .before .before .before .before .good .0)
 
 apply-tags-loop-less-49 : (t : ℕ) → apply-tags-lts.Need-loop-less-49 (calls-tags t) (apply-tags-at t) apply-tags.Post apply-tags-Inv-loop apply-tags-μ-loop
-apply-tags-loop-less-49 t c = omega (arith, c .before .before .before .before .before .before .before .loop .inv .end, c .before .before .before .inside .ensures, c .before .before .before .before .before .before .loop-test .taken, c .before .before .before .before .before .before .before .before .before .pre, c .before .before .before .before .before .before .before .before .before .good .0)
-
-apply-tags-add-at-50 : (t : ℕ) → apply-tags-lts.Need-add-at-50 (calls-tags t) (apply-tags-at t) apply-tags.Post apply-tags-Inv-loop apply-tags-μ-loop
-apply-tags-add-at-50 t c = omega (arith, c .before .before .before .before .before .before .before .before .before .loop .inv .end, c .before .before .before .before .before .inside .ensures, c .before .before .before .before .before .before .before .before .loop-test .taken, c .before .before .before .before .before .before .before .before .before .before .before .pre, c .before .before .before .before .before .before .before .before .before .before .before .good .0)
-
-apply-tags-sub-left-50 : (t : ℕ) → apply-tags-lts.Need-sub-left-50 (calls-tags t) (apply-tags-at t) apply-tags.Post apply-tags-Inv-loop apply-tags-μ-loop
-apply-tags-sub-left-50 t c = omega (arith, c .before .before .before .before .before .before .before .before .before .loop .inv .end, c .before .before .before .before .before .inside .ensures, c .before .before .before .before .before .before .before .before .loop-test .taken, c .before .before .before .before .before .before .before .before .before .before .before .pre, c .before .before .before .before .before .before .before .before .before .before .before .good .0)
-
-apply-tags-loop-less-50 : (t : ℕ) → apply-tags-lts.Need-loop-less-50 (calls-tags t) (apply-tags-at t) apply-tags.Post apply-tags-Inv-loop apply-tags-μ-loop
-apply-tags-loop-less-50 t c = omega (arith, c .before .before .before .before .before .before .before .before .before .loop .inv .end, c .before .before .before .before .before .inside .ensures, c .before .before .before .before .before .before .before .before .loop-test .taken, c .before .before .before .before .before .before .before .before .before .before .before .pre, c .before .before .before .before .before .before .before .before .before .before .before .good .0)
+apply-tags-loop-less-49 t c = omega (arith, c .before .before .before .before .before .loop .inv .end, c .before .inside .ensures, c .before .before .before .before .loop-test .taken, c .before .before .before .before .before .before .before .pre, c .before .before .before .before .before .before .before .good .0)
 
 apply-tags-returns : (t : ℕ) → apply-tags-lts.Need-returns (calls-tags t) (apply-tags-at t) apply-tags.Post apply-tags-Inv-loop apply-tags-μ-loop
 apply-tags-returns t c = let s = c .before .before .before in loop-done (c .before .loop .inv) (c .loop-test .left) ∙ rw (toZ-ofZ w32 (s .args .t) (s .fits .t), toZ-ofZ w32 (s .args .dur) (s .fits .dur))
@@ -518,4 +506,4 @@ pub +apply-t+apply-tags-spec : {M : Type 1} → statement M
     close μ-apply-t μ-apply-tags (λ t. apply-t-lts.spec (calls-t t) (apply-t-at t) apply-t.Post
     (λ c κs. search needs) (λ c. search needs) (λ c. search needs) (λ c κs. search needs) (λ c κs. search needs) (λ c κs. search needs) (λ c κs. search needs) (λ c κs. search needs) (λ c κs. search needs) (λ c κs. search needs) (λ c κs. search needs) (λ c κs. search needs) (λ c κs. search needs) (λ c κs. search needs) (apply-t-returns t))
     (λ t. apply-tags-lts.spec (calls-tags t) (apply-tags-at t) apply-tags.Post apply-tags-Inv-loop apply-tags-μ-loop
-    (λ c. search needs) (λ c κs. search needs) (λ c κs. omega (arith, c .before .before .before .before .loop .inv .end, c .before .before .before .loop-test .taken, c .before .before .before .before .before .before .pre)) (λ c κs. search needs) (λ c. search needs) (λ c. search needs) (λ c. search needs) (apply-tags-loop-again t) (λ c κs. omega (arith, c .before .before .before .before .loop .inv .end, c .before .before .before .loop-test .taken, c .before .before .before .before .before .before .pre)) (λ c κs. search needs) (λ c. search needs) (λ c. search needs) (λ c. search needs) (apply-tags-loop-again-2 t) (λ c κs. search needs) (λ c κs. search needs) (λ c. search needs) (λ c. search needs) (λ c. search needs) (apply-tags-loop-again-3 t) (λ c κs. omega (arith, c .before .before .before .before .loop .inv .end, c .before .before .before .loop-test .taken, c .before .before .before .before .before .before .pre)) (λ c κs. search needs) (λ c κs. search needs) (λ c. search needs) (λ c. search needs) (λ c. search needs) (apply-tags-loop-again-4 t) (λ c κs. search needs) (λ c κs. search needs) (λ c. search needs) (λ c. search needs) (λ c. search needs) (apply-tags-loop-again-5 t) (λ c κs. search needs) (λ c κs. search needs) (λ c. search needs) (λ c. search needs) (λ c. search needs) (apply-tags-loop-again-6 t) (λ c κs. search needs) (λ c. search needs) (λ c. search needs) (λ c. search needs) (apply-tags-loop-again-7 t) (λ c κs. search needs) (λ c. search needs) (λ c. search needs) (λ c. search needs) (apply-tags-loop-again-8 t) (λ c κs. omega (arith, c .before .before .before .before .loop .inv .end, c .before .before .before .loop-test .taken, c .before .before .before .before .before .before .pre)) (λ c κs. search needs) (λ c κs. search needs) (λ c. search needs) (λ c. search needs) (λ c. search needs) (apply-tags-loop-again-9 t) (λ c κs. search needs) (λ c κs. search needs) (λ c. search needs) (λ c. search needs) (λ c. search needs) (apply-tags-loop-again-10 t) (λ c κs. omega (arith, c .before .before .before .before .loop .inv .end, c .before .before .before .loop-test .taken, c .before .before .before .before .before .before .pre)) (λ c κs. search needs) (λ c κs. search needs) (λ c. search needs) (λ c. search needs) (λ c. search needs) (apply-tags-loop-again-11 t) (λ c κs. search needs) (λ c κs. search needs) (λ c. search needs) (λ c. search needs) (λ c. search needs) (apply-tags-loop-again-12 t) (λ c κs. search needs) (λ c κs. search needs) (λ c. search needs) (λ c. search needs) (λ c. search needs) (apply-tags-loop-again-13 t) (λ c κs. search needs) (λ c κs. search needs) (λ c. search needs) (λ c. search needs) (λ c. search needs) (apply-tags-loop-again-14 t) (λ c κs. search needs) (λ c κs. search needs) (λ c. search needs) (λ c. search needs) (λ c. search needs) (apply-tags-loop-again-15 t) (λ c κs. search needs) (λ c κs. search needs) (λ c κs. search needs) (λ c. search needs) (λ c. search needs) (λ c. search needs) (apply-tags-loop-again-16 t) (λ c κs. search needs) (λ c κs. search needs) (λ c κs. search needs) (λ c. search needs) (λ c. search needs) (λ c. search needs) (apply-tags-loop-again-17 t) (λ c κs. search needs) (λ c κs. search needs) (λ c κs. search needs) (λ c. search needs) (λ c. search needs) (λ c. search needs) (apply-tags-loop-again-18 t) (λ c κs. search needs) (λ c κs. search needs) (λ c κs. search needs) (λ c. search needs) (λ c. search needs) (λ c. search needs) (apply-tags-loop-again-19 t) (λ c κs. search needs) (λ c κs. search needs) (λ c κs. search needs) (λ c. search needs) (λ c. search needs) (λ c. search needs) (apply-tags-loop-again-20 t) (λ c κs. search needs) (λ c κs. search needs) (λ c κs. search needs) (λ c. search needs) (λ c. search needs) (λ c. search needs) (apply-tags-loop-again-21 t) (λ c κs. search needs) (λ c κs. search needs) (λ c. search needs) (λ c. search needs) (λ c. search needs) (apply-tags-loop-again-22 t) (λ c κs. search needs) (λ c. search needs) (λ c. search needs) (λ c. search needs) (apply-tags-loop-again-23 t) (λ c κs. search needs) (λ c. search needs) (λ c. search needs) (λ c. search needs) (apply-tags-loop-again-24 t) (λ c κs. omega (arith, c .before .before .before .before .loop .inv .end, c .before .before .before .loop-test .taken, c .before .before .before .before .before .before .pre)) (λ c κs. search needs) (λ c κs. search needs) (λ c. search needs) (λ c. search needs) (λ c. search needs) (apply-tags-loop-again-25 t) (λ c κs. search needs) (λ c κs. search needs) (λ c. search needs) (λ c. search needs) (λ c. search needs) (apply-tags-loop-again-26 t) (λ c κs. omega (arith, c .before .before .before .before .loop .inv .end, c .before .before .before .loop-test .taken, c .before .before .before .before .before .before .pre)) (λ c κs. search needs) (λ c κs. search needs) (λ c. search needs) (λ c. search needs) (λ c. search needs) (apply-tags-loop-again-27 t) (λ c κs. omega (arith, c .before .before .before .before .loop .inv .end, c .before .before .before .loop-test .taken, c .before .before .before .before .before .before .pre)) (λ c κs. search needs) (λ c κs. search needs) (λ c. search needs) (λ c. search needs) (λ c. search needs) (apply-tags-loop-again-28 t) (λ c κs. omega (arith, c .before .before .before .before .loop .inv .end, c .before .before .before .loop-test .taken, c .before .before .before .before .before .before .pre)) (λ c κs. search needs) (λ c κs. search needs) (λ c. search needs) (λ c. search needs) (λ c. search needs) (apply-tags-loop-again-29 t) (λ c κs. search needs) (λ c. search needs) (λ c. search needs) (λ c. search needs) (apply-tags-loop-again-30 t) (λ c κs. search needs) (λ c κs. search needs) (λ c. search needs) (λ c. search needs) (λ c. search needs) (apply-tags-loop-again-31 t) (λ c κs. search needs) (λ c κs. search needs) (λ c. search needs) (λ c. search needs) (λ c. search needs) (apply-tags-loop-again-32 t) (λ c κs. search needs) (λ c κs. search needs) (λ c. search needs) (λ c. search needs) (λ c. search needs) (apply-tags-loop-again-33 t) (λ c κs. search needs) (λ c κs. search needs) (λ c. search needs) (λ c. search needs) (λ c. search needs) (apply-tags-loop-again-34 t) (λ c κs. search needs) (λ c κs. search needs) (λ c. search needs) (λ c. search needs) (λ c. search needs) (apply-tags-loop-again-35 t) (λ c κs. search needs) (λ c. search needs) (λ c. search needs) (λ c. search needs) (apply-tags-loop-again-36 t) (λ c κs. search needs) (λ c. search needs) (λ c. search needs) (λ c. search needs) (apply-tags-loop-again-37 t) (λ c κs. search needs) (λ c κs. search needs) (λ c. search needs) (λ c. search needs) (λ c. search needs) (apply-tags-loop-again-38 t) (λ c κs. omega (arith, c .before .before .before .before .loop .inv .end, c .before .before .before .loop-test .taken, c .before .before .before .before .before .before .pre)) (λ c κs. search needs) (λ c κs. search needs) (λ c. search needs) (λ c. search needs) (λ c. search needs) (apply-tags-loop-again-39 t) (λ c κs. search needs) (λ c κs. search needs) (λ c. search needs) (λ c. search needs) (λ c. search needs) (apply-tags-loop-again-40 t) (λ c κs. omega (arith, c .before .before .before .loop .inv .end, c .before .before .loop-test .taken, c .before .before .before .before .before .pre)) (λ c κs. search needs) (λ c. search needs) (λ c. search needs) (λ c. search needs) (apply-tags-loop-again-41 t) (λ c κs. search needs) (λ c κs. search needs) (λ c. search needs) (λ c. search needs) (λ c. search needs) (apply-tags-loop-again-42 t) (λ c κs. search needs) (λ c κs. search needs) (λ c. search needs) (λ c. search needs) (λ c. search needs) (apply-tags-loop-again-43 t) (λ c κs. search needs) (λ c κs. search needs) (λ c. search needs) (λ c. search needs) (λ c. search needs) (apply-tags-loop-again-44 t) (λ c κs. search needs) (λ c κs. search needs) (λ c. search needs) (λ c. search needs) (λ c. search needs) (apply-tags-loop-again-45 t) (λ c. search needs) (λ c. search needs) (λ c. search needs) (apply-tags-loop-again-46 t) (λ c κs. search needs) (λ c κs. search needs) (λ c. search needs) (λ c. search needs) (λ c. search needs) (apply-tags-loop-again-47 t) (λ c κs. search needs) (λ c κs. search needs) (λ c. search needs) (λ c. search needs) (λ c. search needs) (apply-tags-loop-again-48 t) (λ c. search needs) (λ c κs. search needs) (λ c. search needs) (λ c κs. search needs) (apply-tags-add-at-49 t) (apply-tags-sub-left-49 t) (apply-tags-loop-less-49 t) (apply-tags-loop-again-49 t) (λ c κs. search needs) (λ c κs. search needs) (λ c κs. search needs) (apply-tags-add-at-50 t) (apply-tags-sub-left-50 t) (apply-tags-loop-less-50 t) (apply-tags-loop-again-50 t) (λ c. search needs) (λ c. search needs) (λ c. search needs) (apply-tags-loop-again-51 t) (apply-tags-returns t))
+    (λ c. search needs) (λ c κs. search needs) (λ c κs. omega (arith, c .before .before .before .before .loop .inv .end, c .before .before .before .loop-test .taken, c .before .before .before .before .before .before .pre)) (λ c κs. search needs) (λ c. search needs) (λ c. search needs) (λ c. search needs) (apply-tags-loop-again t) (λ c κs. omega (arith, c .before .before .before .before .loop .inv .end, c .before .before .before .loop-test .taken, c .before .before .before .before .before .before .pre)) (λ c κs. search needs) (λ c. search needs) (λ c. search needs) (λ c. search needs) (apply-tags-loop-again-2 t) (λ c κs. search needs) (λ c κs. search needs) (λ c. search needs) (λ c. search needs) (λ c. search needs) (apply-tags-loop-again-3 t) (λ c κs. omega (arith, c .before .before .before .before .loop .inv .end, c .before .before .before .loop-test .taken, c .before .before .before .before .before .before .pre)) (λ c κs. search needs) (λ c κs. search needs) (λ c. search needs) (λ c. search needs) (λ c. search needs) (apply-tags-loop-again-4 t) (λ c κs. search needs) (λ c κs. search needs) (λ c. search needs) (λ c. search needs) (λ c. search needs) (apply-tags-loop-again-5 t) (λ c κs. search needs) (λ c κs. search needs) (λ c. search needs) (λ c. search needs) (λ c. search needs) (apply-tags-loop-again-6 t) (λ c κs. search needs) (λ c. search needs) (λ c. search needs) (λ c. search needs) (apply-tags-loop-again-7 t) (λ c κs. search needs) (λ c. search needs) (λ c. search needs) (λ c. search needs) (apply-tags-loop-again-8 t) (λ c κs. omega (arith, c .before .before .before .before .loop .inv .end, c .before .before .before .loop-test .taken, c .before .before .before .before .before .before .pre)) (λ c κs. search needs) (λ c κs. search needs) (λ c. search needs) (λ c. search needs) (λ c. search needs) (apply-tags-loop-again-9 t) (λ c κs. search needs) (λ c κs. search needs) (λ c. search needs) (λ c. search needs) (λ c. search needs) (apply-tags-loop-again-10 t) (λ c κs. omega (arith, c .before .before .before .before .loop .inv .end, c .before .before .before .loop-test .taken, c .before .before .before .before .before .before .pre)) (λ c κs. search needs) (λ c κs. search needs) (λ c. search needs) (λ c. search needs) (λ c. search needs) (apply-tags-loop-again-11 t) (λ c κs. search needs) (λ c κs. search needs) (λ c. search needs) (λ c. search needs) (λ c. search needs) (apply-tags-loop-again-12 t) (λ c κs. search needs) (λ c κs. search needs) (λ c. search needs) (λ c. search needs) (λ c. search needs) (apply-tags-loop-again-13 t) (λ c κs. search needs) (λ c κs. search needs) (λ c. search needs) (λ c. search needs) (λ c. search needs) (apply-tags-loop-again-14 t) (λ c κs. search needs) (λ c κs. search needs) (λ c. search needs) (λ c. search needs) (λ c. search needs) (apply-tags-loop-again-15 t) (λ c κs. search needs) (λ c κs. search needs) (λ c κs. search needs) (λ c. search needs) (λ c. search needs) (λ c. search needs) (apply-tags-loop-again-16 t) (λ c κs. search needs) (λ c κs. search needs) (λ c κs. search needs) (λ c. search needs) (λ c. search needs) (λ c. search needs) (apply-tags-loop-again-17 t) (λ c κs. search needs) (λ c κs. search needs) (λ c κs. search needs) (λ c. search needs) (λ c. search needs) (λ c. search needs) (apply-tags-loop-again-18 t) (λ c κs. search needs) (λ c κs. search needs) (λ c κs. search needs) (λ c. search needs) (λ c. search needs) (λ c. search needs) (apply-tags-loop-again-19 t) (λ c κs. search needs) (λ c κs. search needs) (λ c κs. search needs) (λ c. search needs) (λ c. search needs) (λ c. search needs) (apply-tags-loop-again-20 t) (λ c κs. search needs) (λ c κs. search needs) (λ c κs. search needs) (λ c. search needs) (λ c. search needs) (λ c. search needs) (apply-tags-loop-again-21 t) (λ c κs. search needs) (λ c κs. search needs) (λ c. search needs) (λ c. search needs) (λ c. search needs) (apply-tags-loop-again-22 t) (λ c κs. search needs) (λ c. search needs) (λ c. search needs) (λ c. search needs) (apply-tags-loop-again-23 t) (λ c κs. search needs) (λ c. search needs) (λ c. search needs) (λ c. search needs) (apply-tags-loop-again-24 t) (λ c κs. omega (arith, c .before .before .before .before .loop .inv .end, c .before .before .before .loop-test .taken, c .before .before .before .before .before .before .pre)) (λ c κs. search needs) (λ c κs. search needs) (λ c. search needs) (λ c. search needs) (λ c. search needs) (apply-tags-loop-again-25 t) (λ c κs. search needs) (λ c κs. search needs) (λ c. search needs) (λ c. search needs) (λ c. search needs) (apply-tags-loop-again-26 t) (λ c κs. omega (arith, c .before .before .before .before .loop .inv .end, c .before .before .before .loop-test .taken, c .before .before .before .before .before .before .pre)) (λ c κs. search needs) (λ c κs. search needs) (λ c. search needs) (λ c. search needs) (λ c. search needs) (apply-tags-loop-again-27 t) (λ c κs. omega (arith, c .before .before .before .before .loop .inv .end, c .before .before .before .loop-test .taken, c .before .before .before .before .before .before .pre)) (λ c κs. search needs) (λ c κs. search needs) (λ c. search needs) (λ c. search needs) (λ c. search needs) (apply-tags-loop-again-28 t) (λ c κs. omega (arith, c .before .before .before .before .loop .inv .end, c .before .before .before .loop-test .taken, c .before .before .before .before .before .before .pre)) (λ c κs. search needs) (λ c κs. search needs) (λ c. search needs) (λ c. search needs) (λ c. search needs) (apply-tags-loop-again-29 t) (λ c κs. search needs) (λ c. search needs) (λ c. search needs) (λ c. search needs) (apply-tags-loop-again-30 t) (λ c κs. search needs) (λ c κs. search needs) (λ c. search needs) (λ c. search needs) (λ c. search needs) (apply-tags-loop-again-31 t) (λ c κs. search needs) (λ c κs. search needs) (λ c. search needs) (λ c. search needs) (λ c. search needs) (apply-tags-loop-again-32 t) (λ c κs. search needs) (λ c κs. search needs) (λ c. search needs) (λ c. search needs) (λ c. search needs) (apply-tags-loop-again-33 t) (λ c κs. search needs) (λ c κs. search needs) (λ c. search needs) (λ c. search needs) (λ c. search needs) (apply-tags-loop-again-34 t) (λ c κs. search needs) (λ c κs. search needs) (λ c. search needs) (λ c. search needs) (λ c. search needs) (apply-tags-loop-again-35 t) (λ c κs. search needs) (λ c. search needs) (λ c. search needs) (λ c. search needs) (apply-tags-loop-again-36 t) (λ c κs. search needs) (λ c. search needs) (λ c. search needs) (λ c. search needs) (apply-tags-loop-again-37 t) (λ c κs. search needs) (λ c κs. search needs) (λ c. search needs) (λ c. search needs) (λ c. search needs) (apply-tags-loop-again-38 t) (λ c κs. omega (arith, c .before .before .before .before .loop .inv .end, c .before .before .before .loop-test .taken, c .before .before .before .before .before .before .pre)) (λ c κs. search needs) (λ c κs. search needs) (λ c. search needs) (λ c. search needs) (λ c. search needs) (apply-tags-loop-again-39 t) (λ c κs. search needs) (λ c κs. search needs) (λ c. search needs) (λ c. search needs) (λ c. search needs) (apply-tags-loop-again-40 t) (λ c κs. omega (arith, c .before .before .before .loop .inv .end, c .before .before .loop-test .taken, c .before .before .before .before .before .pre)) (λ c κs. search needs) (λ c. search needs) (λ c. search needs) (λ c. search needs) (apply-tags-loop-again-41 t) (λ c κs. search needs) (λ c κs. search needs) (λ c. search needs) (λ c. search needs) (λ c. search needs) (apply-tags-loop-again-42 t) (λ c κs. search needs) (λ c κs. search needs) (λ c. search needs) (λ c. search needs) (λ c. search needs) (apply-tags-loop-again-43 t) (λ c κs. search needs) (λ c κs. search needs) (λ c. search needs) (λ c. search needs) (λ c. search needs) (apply-tags-loop-again-44 t) (λ c κs. search needs) (λ c κs. search needs) (λ c. search needs) (λ c. search needs) (λ c. search needs) (apply-tags-loop-again-45 t) (λ c. search needs) (λ c. search needs) (λ c. search needs) (apply-tags-loop-again-46 t) (λ c κs. search needs) (λ c κs. search needs) (λ c. search needs) (λ c. search needs) (λ c. search needs) (apply-tags-loop-again-47 t) (λ c κs. search needs) (λ c κs. search needs) (λ c. search needs) (λ c. search needs) (λ c. search needs) (apply-tags-loop-again-48 t) (λ c. search needs) (λ c κs. search needs) (λ c. search needs) (λ c κs. search needs) (apply-tags-add-at-49 t) (apply-tags-sub-left-49 t) (apply-tags-loop-less-49 t) (apply-tags-loop-again-49 t) (λ c. search needs) (λ c. search needs) (λ c. search needs) (apply-tags-loop-again-50 t) (apply-tags-returns t))

@@ -13,15 +13,14 @@ use Rattle.refusal.specs.declared.Checked.the-variants.{Good, Bad}
 use Rattle.refusal.specs.declared.Refusal.{Refusal}
 use Rattle.refusal.specs.declared.Refusal.the-variants.{TableMalformed}
 use Rattle.tag.specs.declared.Record.{Record}
-use Rattle.tag.specs.Tag.{Times, mostDepth}
+use Rattle.tag.specs.Tag.{mostDepth}
 use Rattle.tag.specs.Table.{width, placesOf}
 use Rattle.tag.specs.Range.{inRange}
 use Rattle.tag.specs.WellFormed.{tKind, holds, first, fault, excess, tableGround}
-use Rattle.tag.specs.Decode.{timesOf, decodeOne, tagsOf}
+use Rattle.tag.specs.Decode.{decodeOne, tagsOf}
 use Rattle.state.specs.declared.RenderState.{RenderState}
 use Rattle.state.specs.State.{identity}
 use Rattle.state.specs.Apply.{applyOwn, evaluateAt}
-use Rattle.apply.proofs.Groups.{kind-t}
 use Rattle.apply.proofs.Keys.{Missed, from, past}
 use Rattle.table.specs.Inner.{recordIn, part, Inside, ofKind, faultOfT}
 use Rattle.table.specs.Ground.{timeGround, callGround}
@@ -29,11 +28,21 @@ use Rattle.table.proofs.ByKind.{of-none}
 use Rattle.table.proofs.Slices.{length-records}
 use Rattle.table.proofs.Faults.{none-left, kind-bad, kind-plain, top-bad, top-past}
 use Rattle.table.proofs.Grounds.{table-found, good-fine}
 use Rattle.evaluate.specs.declared.Evaluated.{Evaluated}
 use Rattle.evaluate.specs.Inner.{tagsAt, insideOf, aroundOf}
 use Rattle.evaluate.specs.Evaluate.{evaluatedOr, evaluated}
+use Rattle.words.specs.Words.{stateWords}
+use Rattle.frame.specs.Frame.{Framed, groundOf, stateAfter}
 use Rattle.evaluate.proofs.Turns.{Looping, loop-start, loop-done}
-use Rattle.evaluate.proofs.Arms.{SameTimes, turn-kind, turn-around}
+use Rattle.evaluate.proofs.Arms.{turn-kind, turn-around}
+
+-- a refusal leaves the lent words v
+pub refused : {ws v : List ℕ} {t dur : ℤ} {b : Refusal} → Evaluated.Refused b ≡ evaluated ws t dur → Framed ws t dur v (Bad b) v
+refused {v = v} e = record { ground = ap groundOf e; state = ap (λ (a : Evaluated). stateAfter a v) e }
+
+-- a state has been written
+pub framed : {ws v u : List ℕ} {t dur : ℤ} {st : RenderState} → Evaluated.State st ≡ evaluated ws t dur → u ≡ stateWords st → Framed ws t dur v Good u
+framed {v = v} e w = record { ground = ap groundOf e; state = w ∙ ap (λ (a : Evaluated). stateAfter a v) e }
 
 -- at the record at with the state post: the records before it stand, and post is what their tags make of st
 pub record Checking (t dur : ℤ) (ws : List ℕ) (end : ℕ) (st : RenderState) (at : ℕ) (post : RenderState) : Type 0 where
@@ -85,9 +94,9 @@ module _ {t dur : ℤ} {ws : List ℕ} {end : ℕ} {st : RenderState} where
       pub t-refused : (u d : ℤ) {b : Refusal} → c ≡ Bad b → Evaluated.Refused b ≡ evaluated ws u d
       t-refused u d {b = b} y = at-fault u d b (top-bad ws at (end - at) (room .1) (room .0) r i q c f b y)
 
-      pub t-next : {m : ℕ} {next : RenderState} (x : Times) → c ≡ Good → m ≡ insideOf r (end - at - 1) → SameTimes dur x (timesOf (r .w1) (r .w2) (r .w3)) → next ≡ aroundOf t dur ws at (end - at) x post →
+      pub t-next : {m : ℕ} {next : RenderState} → c ≡ Good → m ≡ insideOf r (end - at - 1) → next ≡ aroundOf t dur ws at (end - at) post →
           Checking t dur ws end st (at + (1 + m)) next
-      t-next {m = m} x y d g e =
+      t-next {m = m} y d e =
           let a = top-past ws at (end - at) (room .1) (room .0) r i q c f y in
           let n : m ≡ holds r = omega (arith, d, a .0) in
           let u : at + 1 + holds r ≡ at + (1 + m) = omega (arith, n) in
@@ -96,7 +105,7 @@ module _ {t dur : ℤ} {ws : List ℕ} {end : ℕ} {st : RenderState} where
           record {
             most = l .most;
             inside = l .inside;
-            tags = rw v at (turn-around x (l .tags) (room .0) i (sym (kind-t _ q)) refl d g e);
+            tags = rw v at (turn-around (l .tags) (room .0) i q d e);
             ground = rw (u, w) at (a .1) ∙ l .ground;
           }
 
