@@ -1,25 +1,37 @@
--- What the calls that are given an instant ask: the lent words hold a state and no more, a mark is an i32.
-use mathlib.Core.Path.{_≡_}
-use mathlib.Core.List.{List, append-nil}
+-- What the calls that are given an instant ask: the number by the ground, a mark that is an i32.
+use mathlib.Core.Path.{_≡_, refl, sym, ap}
+use mathlib.Core.Bool.{Bool, true, false, true≢false}
 use Prim.Native.Nat.{ℕ, _^_, _<_}
 use native.Mathlib.Nat.{lt-trans, mod-eq-of-lt}
 use native.Mathlib.Omega.{arith}
 use lib.Dec.{lit<}
 use lib.IntN.{ℤ, pos, negsuc}
-use lib.ListN.{length}
-use lib.Seq.{drop-length}
 use mir.Syntax.{w32}
 use mir.Val.{SFits}
-use borrow.Author.Tests.{le-leb}
 use Rattle.float.specs.Float.{toWord}
-use Rattle.words.specs.Words.{written}
-use Rattle.hannuvel.specs.Packed.{packed}
-use Rattle.hannuvel.specs.Instant.{Signed}
+use Rattle.refusal.specs.declared.Refusal.{Refusal}
+use Rattle.refusal.specs.declared.Checked.{Checked}
+use Rattle.refusal.specs.declared.Checked.the-variants.{Good, Bad}
+use Rattle.evaluate.specs.declared.Evaluated.{Evaluated}
+use Rattle.frame.specs.Frame.{groundOf}
+use Rattle.hannuvel.specs.Packed.{packed, refusalWord}
+use Rattle.hannuvel.specs.Instant.{evaluatedWord, Signed}
 
--- words written over as many
-pub filled : (t ws : List ℕ) → length ws ≡ length t → written t ws ≡ ws
-unfolding written
-filled t ws e = rw (le-leb (length ws) (length t) (omega arith), e, drop-length t, append-nil ws)
+-- ---- the number by the ground
+
+abbrev isGood : Checked → Bool
+isGood Good = true
+isGood (Bad r) = false
+
+pub refused-word : (a : Evaluated) (g : Refusal) → Bad g ≡ groundOf a → refusalWord g ≡ evaluatedWord a
+refused-word (Evaluated.State st) g h = absurd (true≢false (sym (ap isGood h)))
+refused-word (Evaluated.Refused r) g h = let e : g ≡ r = cc in rw e
+
+pub good-word : (a : Evaluated) → Good ≡ groundOf a → 0 ≡ evaluatedWord a
+good-word (Evaluated.State st) h = refl
+good-word (Evaluated.Refused r) h = absurd (true≢false (ap isGood h))
+
+-- ---- a mark
 
 pub fits-signed : (a : ℤ) → SFits w32 a → Signed a
 fits-signed (pos n) f = f .sfits

@@ -11,7 +11,7 @@ use Rattle.marks.specs.Answer as Marks
 use Rattle.marks.specs.Answer.{marked, markOf}
 use Rattle.marks.specs.declared.Mark.{Mark}
 use Rattle.marks.specs.declared.Marked.{Marked}
-use Rattle.words.specs.Words.{stateWords}
+use Rattle.frame.specs.Frame.{stateAfter}
 use Rattle.hannuvel.specs.Packed.{packed}
 
 -- ---- `hannuvel_evaluate_at`
@@ -19,11 +19,6 @@ use Rattle.hannuvel.specs.Packed.{packed}
 -- an answer has no value and no extra; for a ground its place
 abbrev pub evaluatedWord : Evaluated → ℕ
 evaluatedWord a = packed (groundNumber a) 0 (groundPlace a)
-
--- the 92 lent words afterwards, on those before: on a refusal every old one
-abbrev pub stateAfter : Evaluated → List ℕ → List ℕ
-stateAfter (Evaluated.State st) t = stateWords st
-stateAfter (Evaluated.Refused r) t = t
 
 -- what the call says: the number r, and the lent words v before and u after
 pub record EvaluatingCall (ws : List ℕ) (t dur : ℤ) (v : List ℕ) (r : ℕ) (u : List ℕ) : Type 0 where

@@ -79,12 +79,9 @@ pub extern "C" fn hannuvel_evaluate_at(
 ) -> u64
     ensures { λ r. ⌜ EvaluatingCall (now (table .entry)) t duration (now (state .entry)) r (now (state .exit)) ⌝ }
 {
-    match evaluate::evaluate_at(table, t, duration) {
-        evaluate::Evaluated::Refused(g) => packed_refusal(g),
-        evaluate::Evaluated::State(st) => {
-            words::write_state(state, st);
-            0
-        }
+    match frame::write_at(table, t, duration, state) {
+        refusal::Checked::Bad(g) => packed_refusal(g),
+        refusal::Checked::Good => 0,
     }
 }
 
@@ -177,7 +174,7 @@ pub extern "C" fn hannuvel_style_in_force<'a>(
 {
     match style::check_texts(block, own) {
         refusal::Checked::Bad(g) => packed_refusal(g),
-        refusal::Checked::Good => match evaluate::evaluate_in_steps(table, t, duration) {
+        refusal::Checked::Good => match evaluate::evaluate_at(table, t, duration) {
             evaluate::Evaluated::Refused(r) => packed_refusal(r),
             evaluate::Evaluated::State(st) => packed_style(style::named_style(st, block, own)),
         },

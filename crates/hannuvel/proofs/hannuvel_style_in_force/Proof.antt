@@ -18,13 +18,13 @@ returns c = record { answered = rw (sym (c .before .before .before .before .chec
 returns-2 : tie.Need-returns-2
 returns-2 c =
     let s = c .before .before .before .before .before .before .before .before .before .before .before in
-    let k = rw (toZ-ofZ w32 (s .args .t) (s .fits .t), toZ-ofZ w32 (s .args .duration) (s .fits .duration)) at (c .before .before .before .before .evaluate-in-steps .ensures) in
+    let k = rw (toZ-ofZ w32 (s .args .t) (s .fits .t), toZ-ofZ w32 (s .args .duration) (s .fits .duration)) at (c .before .before .before .before .evaluate-at .ensures) in
     record { answered = rw (sym (c .before .before .before .before .before .before .before .check-texts .ensures) ∙ c .before .before .before .before .before .enum-told .given .1, sym k ∙ c .before .before .r .given .1) (c .packed-refusal2 .ensures) }
 
 returns-3 : tie.Need-returns-3
 returns-3 c =
     let s = c .before .before .before .before .before .before .before .before .before .before .before .before in
-    let k = rw (toZ-ofZ w32 (s .args .t) (s .fits .t), toZ-ofZ w32 (s .args .duration) (s .fits .duration)) at (c .before .before .before .before .before .evaluate-in-steps .ensures) in
+    let k = rw (toZ-ofZ w32 (s .args .t) (s .fits .t), toZ-ofZ w32 (s .args .duration) (s .fits .duration)) at (c .before .before .before .before .before .evaluate-at .ensures) in
     record { answered = rw (sym (c .before .before .before .before .before .before .before .before .check-texts .ensures) ∙ c .before .before .before .before .before .before .enum-told .given .1, sym k ∙ c .before .before .before .st .given .1) (rw (← c .before .named-style .ensures) (c .packed-style .ensures)) }
 
 pub hannuvel-style-in-force-spec : {M : Type 1} → statement M
