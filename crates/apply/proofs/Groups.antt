@@ -21,7 +21,7 @@ use Rattle.apply.specs.Inner.{groups, groupOf, by, alwaysBy, placesBy, c
 
 -- ---- two functions that give the same list over a range are the same there
 
-unfoldable over : {A : Type 0} → (ℕ → A) → ℕ → ℕ → List A
+unfoldable pub over : {A : Type 0} → (ℕ → A) → ℕ → ℕ → List A
 over g i zero = []
 over g i (suc n) = g i ∷ over g (suc i) n
 
@@ -41,7 +41,7 @@ same-over g h i (suc n) k e l u = go (eqb k i) refl (λ l. same-over g h (suc i)
     go false t more = more (omega (arith, eqb-false k i t))
 
 -- the same everywhere, where from the range's end on both give the same
-everywhere : {A : Type 0} (g h : ℕ → A) (n : ℕ) → over g 0 n ≡ over h 0 n → ((k : ℕ) → n ≤ k → g k ≡ h k) → (k : ℕ) → g k ≡ h k
+pub everywhere : {A : Type 0} (g h : ℕ → A) (n : ℕ) → over g 0 n ≡ over h 0 n → ((k : ℕ) → n ≤ k → g k ≡ h k) → (k : ℕ) → g k ≡ h k
 everywhere g h n e past k = go (leb n k) refl
   where
     go : (b : Bool) → leb n k ≡ b → g k ≡ h k
@@ -54,7 +54,7 @@ group-past : (k : ℕ) → 50 ≤ k → groupOf k ≡ Group.Nothing
 unfolding groupOf groups
 group-past k h = List·getD-eq-default groups Group.Nothing h
 
-decode-past : (r : Record) → 50 ≤ r .kind → decodeOne r ≡ Karaoke Fill (cs 0)
+pub decode-past : (r : Record) → 50 ≤ r .kind → decodeOne r ≡ Karaoke Fill (cs 0)
 unfolding decodeOne decoders
 decode-past r h = ap (λ (g : Record → AnimatedTag). g r) (List·getD-eq-default (nothing ∷ decoders) nothing {n = r .kind} h)
 

@@ -1,6 +1,6 @@
 -- Of what `hannuvel_style_in_force` returns, the functions of include/hannuvel.h give back the ground, the extra and the value, and the value has the
 -- part's offset and length.
-use mathlib.Core.Path.{_≡_}
+use mathlib.Core.Path.{_≡_, refl}
 use mathlib.Core.Bool.{Bool}
 use mathlib.Core.List.{List}
 use Prim.Native.Nat.{ℕ, _+_, _-_, _*_, _/_, _%_, _^_, _≤_, _<_}
@@ -17,14 +17,27 @@ use Rattle.tag.specs.Decode.{tagsOf}
 use Rattle.table.specs.Ground.{callGround}
 use Rattle.state.specs.declared.RenderState.{RenderState}
 use Rattle.state.specs.Apply.{evaluateAt}
+use Rattle.state.specs.State.{resetTo}
+use Rattle.evaluate.specs.declared.Evaluated.{Evaluated}
 use Rattle.evaluate.specs.Evaluate.{evaluatedOr, evaluated}
+use Rattle.reset.specs.declared.ResetAt.{ResetAt}
+use Rattle.reset.specs.Reset.{resetIn}
 use Rattle.clips.specs.Clip.{clipGround}
-use Rattle.style.specs.Style.{textsGround, unless, resetTo}
+use Rattle.style.specs.Style.{textsGround, named, refused, unless}
 use Rattle.style.specs.declared.Place.{Place}
 use Rattle.style.proofs.Places.{Short, texts-short, Fits, named-fits}
 use Rattle.hannuvel.specs.Packed.{packed, valueOf, Unpacks}
 use Rattle.hannuvel.specs.InForce.{styleOf, styleAt, styleExtra, styleValue, StyleCall}
 use Rattle.hannuvel.proofs.Unpacked.{unpacked, plain, Low, call-low}
+
+-- the style needs no more of the state than what \r has left
+abbrev pub styleBy : ResetAt → List ℕ → List ℕ → Place
+styleBy (ResetAt.Reset s) block own = named s block own
+styleBy (ResetAt.Refused r) block own = refused r
+
+pub style-by : (e : Evaluated) (block own : List ℕ) → styleOf e block own ≡ styleBy (resetIn e) block own
+style-by (Evaluated.State st) block own = refl
+style-by (Evaluated.Refused r) block own = refl
 
 -- an offset and a length in one word
 two-small : (a b : ℕ) → a < 2 ^ 16 → b < 2 ^ 16 → a * 2 ^ 16 + b < 2 ^ 32

@@ -7,10 +7,11 @@ use Rattle.scan.specs.Scan.{pick}
 use Rattle.refusal.specs.Refusal.{placeOf}
 use Rattle.refusal.specs.declared.Checked.{Checked}
 use Rattle.refusal.specs.declared.Checked.the-variants.{Good, Bad}
+use Rattle.state.specs.State.{resetTo}
 use Rattle.evaluate.specs.Evaluate.{evaluated}
 use Rattle.evaluate.specs.declared.Evaluated.{Evaluated}
 use Rattle.clips.specs.Clip.{clipGround}
-use Rattle.style.specs.Style.{textsGround, named, refused, unless, resetTo}
+use Rattle.style.specs.Style.{textsGround, named, refused, unless}
 use Rattle.style.specs.declared.Place.{Place}
 use Rattle.hannuvel.specs.Packed.{packed}
 

@@ -174,9 +174,9 @@ pub extern "C" fn hannuvel_style_in_force<'a>(
 {
     match style::check_texts(block, own) {
         refusal::Checked::Bad(g) => packed_refusal(g),
-        refusal::Checked::Good => match evaluate::evaluate_at(table, t, duration) {
-            evaluate::Evaluated::Refused(r) => packed_refusal(r),
-            evaluate::Evaluated::State(st) => packed_style(style::named_style(st, block, own)),
+        refusal::Checked::Good => match reset::reset_at(table, t, duration) {
+            reset::ResetAt::Refused(r) => packed_refusal(r),
+            reset::ResetAt::Reset(s) => packed_style(style::named_reset(s, block, own)),
         },
     }
 }

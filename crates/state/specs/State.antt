@@ -37,6 +37,10 @@ identity = record {
   font = record { «font_name» = OptName.None; «font_encoding» = OptU8.None; «bold_weight» = OptU16.None; italic = OptBool.None; underline = OptBool.None; strikeout = OptBool.None };
 }
 
+-- what \r left in a state
+abbrev pub resetTo : RenderState → OptReset
+resetTo st = st .line .«reset_to_style»
+
 -- ---- a state with one group changed, a group with one field changed
 
 abbrev pub withAlways : RenderState → Always → RenderState

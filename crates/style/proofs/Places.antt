@@ -20,8 +20,9 @@ use Rattle.refusal.proofs.Laws.{good-short, text-within}
 use Rattle.state.specs.declared.Part.{Part}
 use Rattle.state.specs.declared.OptReset.{OptReset}
 use Rattle.state.specs.declared.RenderState.{RenderState}
+use Rattle.state.specs.State.{resetTo}
 use Rattle.style.specs.declared.Place.{Place}
-use Rattle.style.specs.Style.{place, refused, ownName, givenName, named, unless, resetTo, lower, textsGround, styleIn, Within}
+use Rattle.style.specs.Style.{place, refused, ownName, givenName, named, unless, lower, textsGround, styleIn, Within}
 
 module _ (block own : List ℕ) where
   none-within : (r : Refusal) → Within block own (refused r)

@@ -16,6 +16,7 @@ use Rattle.refusal.specs.declared.Checked.the-variants.{Good, Bad}
 use Rattle.state.specs.declared.Part.{Part}
 use Rattle.state.specs.declared.OptReset.{OptReset}
 use Rattle.state.specs.declared.RenderState.{RenderState}
+use Rattle.state.specs.State.{resetTo}
 use Rattle.clips.specs.Part.{IsPart}
 use Rattle.style.specs.declared.Place.{Place}
 
@@ -56,10 +57,6 @@ named OptReset.None block own = ownName own
 abbrev pub unless : Checked → Place → Place
 unless Good p = p
 unless (Bad r) p = refused r
-
--- what \r left in a state
-abbrev pub resetTo : RenderState → OptReset
-resetTo st = st .line .«reset_to_style»
 
 -- the style in force, by places
 abbrev pub styleIn : RenderState → List ℕ → List ℕ → Place

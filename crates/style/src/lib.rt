@@ -2,7 +2,7 @@
 ghost use mathlib.Core.Path.{_≡_};
 ghost use mathlib.Core.Bool.{false};
 ghost use Rattle.refusal.specs.declared.Checked.the-variants.{Good};
-ghost use Rattle.style.specs.Style.{lower, textsGround, place, refused, givenName, named, resetTo, styleIn, Within, IsName, InForce};
+ghost use Rattle.style.specs.Style.{lower, textsGround, place, refused, givenName, named, styleIn, Within, IsName, InForce};
 
 // The style in force by places: a ground that stands against it, whether it is a part of the block, and where it begins and ends.
 pub struct Place {
@@ -79,12 +79,10 @@ fn given_name(p: state::Part, len: usize) -> Place
     refused_place(refusal::Refusal::NameBeyondText)
 }
 
-// The name that \r gave, or else the line's own, of texts that have no ground against them.
-pub fn named_style<'a>(st: state::RenderState, block: &'a [u8], own: &'a [u8]) -> Place
-    ensures { λ r. ⌜ r ≡ named (resetTo st) (now (block .entry)) (now (own .entry)) ⌝ }
+// The name that \r gave, or else the line's own, of texts that have no ground against them; from what \r left.
+pub fn named_reset<'a>(reset: state::OptReset, block: &'a [u8], own: &'a [u8]) -> Place
+    ensures { λ r. ⌜ r ≡ named reset (now (block .entry)) (now (own .entry)) ⌝ }
 {
-    let line = st.line;
-    let reset = line.reset_to_style;
     match reset {
         state::OptReset::Named(p) => given_name(p, block.len()),
         state::OptReset::Plain => own_name(own.len()),
@@ -99,7 +97,11 @@ pub fn style_at<'a>(st: state::RenderState, block: &'a [u8], own: &'a [u8]) -> P
     let checked = check_texts(block, own);
     match checked {
         refusal::Checked::Bad(r) => refused_place(r),
-        refusal::Checked::Good => named_style(st, block, own),
+        refusal::Checked::Good => {
+            let line = st.line;
+            let reset = line.reset_to_style;
+            named_reset(reset, block, own)
+        }
     }
 }
 

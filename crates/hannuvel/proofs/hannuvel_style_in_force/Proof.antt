@@ -2,15 +2,16 @@ use mathlib.Core.Path.{sym, _∙_}
 use borrow.Author.Needs.{needs}
 use mir.Syntax.{w32}
 use mir.ValLaws.{toZ-ofZ}
-use Rattle.style.specs.Style.{resetTo}
+use Rattle.evaluate.specs.Evaluate.{evaluated}
 use Rattle.style.proofs.Places.{named-within}
+use Rattle.hannuvel.proofs.InForce.{style-by}
 use Rattle.hannuvel.proofs.hannuvel_style_in_force.Statement.{statement}
 use Rattle.hannuvel.proofs.hannuvel_style_in_force.Tie as tie
 
 packed-style-requires : tie.Need-packed-style-requires
 packed-style-requires c κs =
     let a = c .before .before .before .before .before .before .before .before .before .before .before .args in
-    rw (c .named-style .ensures) (named-within (a .block .now) (a .own .now) (resetTo (c .before .before .st .given .0 .0)) .order)
+    rw (c .named-reset .ensures) (named-within (a .block .now) (a .own .now) (c .before .before .s .given .0 .0) .order)
 
 returns : tie.Need-returns
 returns c = record { answered = rw (sym (c .before .before .before .before .check-texts .ensures) ∙ c .before .before .g .given .1) (c .packed-refusal .ensures) }
@@ -18,14 +19,16 @@ returns c = record { answered = rw (sym (c .before .before .before .before .chec
 returns-2 : tie.Need-returns-2
 returns-2 c =
     let s = c .before .before .before .before .before .before .before .before .before .before .before in
-    let k = rw (toZ-ofZ w32 (s .args .t) (s .fits .t), toZ-ofZ w32 (s .args .duration) (s .fits .duration)) at (c .before .before .before .before .evaluate-at .ensures) in
-    record { answered = rw (sym (c .before .before .before .before .before .before .before .check-texts .ensures) ∙ c .before .before .before .before .before .enum-told .given .1, sym k ∙ c .before .before .r .given .1) (c .packed-refusal2 .ensures) }
+    let a = s .args in
+    let k = rw (toZ-ofZ w32 (a .t) (s .fits .t), toZ-ofZ w32 (a .duration) (s .fits .duration)) at (c .before .before .before .before .reset-at .ensures) in
+    record { answered = rw (sym (c .before .before .before .before .before .before .before .check-texts .ensures) ∙ c .before .before .before .before .before .enum-told .given .1, style-by (evaluated (a .table .now) (a .t) (a .duration)), sym k ∙ c .before .before .r .given .1) (c .packed-refusal2 .ensures) }
 
 returns-3 : tie.Need-returns-3
 returns-3 c =
     let s = c .before .before .before .before .before .before .before .before .before .before .before .before in
-    let k = rw (toZ-ofZ w32 (s .args .t) (s .fits .t), toZ-ofZ w32 (s .args .duration) (s .fits .duration)) at (c .before .before .before .before .before .evaluate-at .ensures) in
-    record { answered = rw (sym (c .before .before .before .before .before .before .before .before .check-texts .ensures) ∙ c .before .before .before .before .before .before .enum-told .given .1, sym k ∙ c .before .before .before .st .given .1) (rw (← c .before .named-style .ensures) (c .packed-style .ensures)) }
+    let a = s .args in
+    let k = rw (toZ-ofZ w32 (a .t) (s .fits .t), toZ-ofZ w32 (a .duration) (s .fits .duration)) at (c .before .before .before .before .before .reset-at .ensures) in
+    record { answered = rw (sym (c .before .before .before .before .before .before .before .before .check-texts .ensures) ∙ c .before .before .before .before .before .before .enum-told .given .1, style-by (evaluated (a .table .now) (a .t) (a .duration)), sym k ∙ c .before .before .before .s .given .1) (rw (← c .before .named-reset .ensures) (c .packed-style .ensures)) }
 
 pub hannuvel-style-in-force-spec : {M : Type 1} → statement M
 hannuvel-style-in-force-spec =

@@ -1,6 +1,6 @@
 use borrow.Author.Needs.{needs}
-use Rattle.style.proofs.named_style.Statement.{statement}
-use Rattle.style.proofs.named_style.Tie as tie
+use Rattle.style.proofs.named_reset.Statement.{statement}
+use Rattle.style.proofs.named_reset.Tie as tie
 
 returns : tie.Need-returns
 returns c = rw (c .before .before .reset .given .1) (c .given-name .ensures)
@@ -11,8 +11,8 @@ returns-2 c = rw (c .before .enum-told .given .1) (c .own-name .ensures)
 returns-3 : tie.Need-returns-3
 returns-3 c = rw (c .before .enum-told2 .given .1) (c .own-name2 .ensures)
 
-pub named-style-spec : {M : Type 1} → statement M
-named-style-spec =
+pub named-reset-spec : {M : Type 1} → statement M
+named-reset-spec =
     tie.close
     (tie.spec
     (λ c. search needs) (λ c κs. search needs) (λ c. search needs) (λ c κs. search needs) (λ c. search needs) (λ c κs. search needs)

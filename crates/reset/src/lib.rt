@@ -1,0 +1,61 @@
+// What \r has left at an instant, with nothing else of the state worked out.
+ghost use mathlib.Core.Path.{_≡_};
+ghost use Rattle.table.specs.Inner.{Inside};
+ghost use Rattle.evaluate.specs.Inner.{tagsAt};
+ghost use Rattle.evaluate.specs.Evaluate.{evaluated};
+ghost use Rattle.reset.specs.Reset.{resetIn, Leaves};
+use refusal::Checked;
+use refusal::Refusal;
+use state::OptReset;
+
+// What the call answers.
+pub enum ResetAt {
+    Reset(OptReset),
+    Refused(Refusal),
+}
+
+// What the tags of the `count` records from `first` on make of s, one after the other. A T that has not begun changes nothing.
+fn reset_tags(table: &[u32], first: usize, count: usize, s: OptReset, t: i32, dur: i32) -> OptReset
+    requires { ⌜ Inside (now table) first count ⌝ }
+    ensures { λ r. ⌜ Leaves t dur (tagsAt (now (table .entry)) first count) s r ⌝ }
+{
+    let mut reset = s;
+    let mut at = first;
+    let mut left = count;
+    while 0 < left {
+        let r = table::record_at(table, at);
+        let kind = r.kind;
+        at += 1;
+        left -= 1;
+        if kind == 41 {
+            reset = apply::values::reset_of(r);
+        } else if kind == 49 {
+            let inner = at;
+            let n = scan::least(r.w5 as usize, left);
+            at += n;
+            left -= n;
+            if mix::factor(r.w1, r.w2, r.w3, r.w4, t, dur) > 0.0 {
+                let words = table;
+                reset = reset_tags(words, inner, n, reset, t, dur);
+            }
+        }
+    }
+    reset
+}
+
+// What \r has left of a table's tags at t, unless the table or a time is at fault.
+pub fn reset_at(table: &[u32], t: i32, dur: i32) -> ResetAt
+    ensures { λ r. ⌜ r ≡ resetIn (evaluated (now (table .entry)) t dur) ⌝ }
+{
+    match table::check_call(table, t, dur) {
+        Checked::Bad(r) => ResetAt::Refused(r),
+        Checked::Good => ResetAt::Reset(reset_tags(
+            table,
+            0,
+            table.len() / 8,
+            OptReset::None,
+            t,
+            dur,
+        )),
+    }
+}
