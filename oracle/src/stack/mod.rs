@@ -70,12 +70,12 @@ fn rows(inputs: &mut Inputs) -> Vec<Row> {
             2 * KB,
         ),
         row("progress", passed, &progress(), KB),
-        row("style_in_force, no \\t", style, &flat_styles, 16 * KB),
+        row("style_in_force, no \\t", style, &flat_styles, KB),
         row(
             "style_in_force, to eight \\t",
             style,
             &nested_styles,
-            16 * KB,
+            2 * KB,
         ),
     ]
 }

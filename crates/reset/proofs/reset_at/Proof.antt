@@ -1,4 +1,4 @@
-use mathlib.Core.Path.{refl, sym, ap, _∙_}
+use mathlib.Core.Path.{refl, sym, _∙_}
 use borrow.Author.Needs.{needs}
 use mir.Syntax.{w32}
 use mir.ValLaws.{toZ-ofZ}
@@ -6,7 +6,6 @@ use Rattle.state.specs.Apply.{evaluateAt}
 use Rattle.state.specs.State.{identity}
 use Rattle.evaluate.specs.Inner.{tagsAt}
 use Rattle.evaluate.specs.Evaluate.{evaluated}
-use Rattle.reset.specs.declared.ResetAt.{ResetAt}
 use Rattle.reset.proofs.reset_at.Statement.{statement}
 use Rattle.reset.proofs.reset_at.Tie as tie
 
@@ -23,7 +22,7 @@ returns-2 c =
     let s = c .before .before .before .before .before in
     let k = rw (toZ-ofZ w32 (s .args .t) (s .fits .t), toZ-ofZ w32 (s .args .dur) (s .fits .dur)) at (c .before .before .before .check-call .ensures) in
     let l = rw (toZ-ofZ w32 (s .args .t) (s .fits .t), toZ-ofZ w32 (s .args .dur) (s .fits .dur)) at (c .reset-tags .ensures identity refl) in
-    rw (sym k ∙ c .before .enum-told .given .1) (ap ResetAt.Reset (sym l))
+    rw (sym k ∙ c .before .enum-told .given .1, l)
 
 pub reset-at-spec : {M : Type 1} → statement M
 reset-at-spec = tie.close (tie.spec (λ c κs. search needs) (λ c. search needs) (λ c. search needs) (λ c κs. search needs) returns returns-2)
