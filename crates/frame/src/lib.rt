@@ -440,6 +440,7 @@ pub fn write_at(table: &[u32], t: i32, dur: i32, state: &mut [u32; 92]) -> Check
     match table::after_records(table, t, dur) {
         Checked::Bad(x) => Checked::Bad(x),
         Checked::Good => {
+            words::clear(state);
             words::put_from_0(state, post);
             words::put_from_18(state, post);
             words::put_from_44(state, post);

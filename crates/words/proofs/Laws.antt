@@ -1,12 +1,12 @@
 -- Words stored one after the other, joined.
 use mathlib.Core.Path.{_≡_, refl, sym, ap, _∙_}
-use mathlib.Core.List.{List, [], _∷_, _++_, append-nil}
-use Prim.Native.Nat.{ℕ, suc, _+_, _≤_}
+use mathlib.Core.List.{List, [], _∷_, _++_, append-nil, append-assoc}
+use Prim.Native.Nat.{ℕ, zero, suc, _+_, _-_, _≤_, _<_}
 use native.Mathlib.Numerals.{add-one}
 use native.Mathlib.Nat.{add-suc}
 use native.Mathlib.Omega.{arith}
-use lib.ListN.{length, set, length-append}
-use lib.Seq.{sets, sets-eq, drop-length}
+use lib.ListN.{length, take, drop, set, length-set, length-append, take-append-drop}
+use lib.Seq.{sets, sets-eq, length-sets, length-take-le, take-all, take-suc-set, drop-length, drop-drop, drop-append-seam}
 use Rattle.words.specs.Words.{optF32, optPair, optRect, optRgb, optU8, optU16, optI32, optBool, optPart, optName, optReset, wordsFrom0, wordsFrom18, wordsFrom44, wordsFrom70, stateWords}
 use Rattle.state.specs.declared.OptF32.{OptF32}
 use Rattle.state.specs.declared.OptPair.{OptPair}
@@ -20,7 +20,7 @@ use Rattle.state.specs.declared.OptPart.{OptPart}
 use Rattle.state.specs.declared.OptName.{OptName}
 use Rattle.state.specs.declared.OptReset.{OptReset}
 use Rattle.state.specs.declared.RenderState.{RenderState}
-use Rattle.words.specs.Inner.{putAt}
+use Rattle.words.specs.Inner.{putAt, zeros, Clear, Free, Put}
 
 -- the words stored at at + k, at + k + 1 ..
 abbrev pub stores : List ℕ → ℕ → ℕ → List ℕ → List ℕ
@@ -41,6 +41,86 @@ sets-append [] b t at = let e : at + 0 ≡ at = omega arith in rw e
 sets-append (w ∷ a) b t at =
     let e : at + suc (length a) ≡ suc at + length a = omega arith in
     rw (e, sets-append a b (set t at w) (suc at))
+
+-- ---- zeros behind what is stored
+
+drop-zeros : (k n : ℕ) → drop k (zeros n) ≡ zeros (n - k)
+drop-zeros zero n = let e : n - 0 ≡ n = omega arith in rw e
+drop-zeros (suc k) zero = let e : 0 - suc k ≡ 0 = omega arith in rw e
+drop-zeros (suc k) (suc n) = let e : suc n - suc k ≡ n - k = omega arith in rw e (drop-zeros k n)
+
+zeros-append : (k n : ℕ) → zeros k ++ zeros n ≡ zeros (k + n)
+zeros-append zero n = let e : 0 + n ≡ n = omega arith in rw e
+zeros-append (suc k) n = let e : suc k + n ≡ suc (k + n) = omega arith in rw e (ap (λ (l : List ℕ). 0 ∷ l) (zeros-append k n))
+
+length-zeros : (k : ℕ) → length (zeros k) ≡ k
+length-zeros zero = refl
+length-zeros (suc k) = ap suc (length-zeros k)
+
+further : {u : List ℕ} {n : ℕ} (k : ℕ) → Clear u n → drop (n + k) u ≡ zeros (92 - (n + k))
+further {u} {n} k c =
+    let e : 92 - n - k ≡ 92 - (n + k) = omega arith in
+    sym (drop-drop k n u) ∙ ap (λ (l : List ℕ). drop k l) (c .rest) ∙ drop-zeros k (92 - n) ∙ ap zeros e
+
+-- words of an absent option are there already
+pub absent : {u : List ℕ} {n k : ℕ} → Free u n k → Put u n k (zeros k) u
+unfolding putAt
+absent {u} {n} {k} f =
+    let c = f .clear in
+    let z = length-zeros k in
+    let l : n + length (zeros k) ≤ length u = omega (arith, z, f .room, c .wide) in
+    let m : k + (92 - (n + k)) ≡ 92 - n = omega (arith, f .room) in
+    let a : take n u ++ zeros k ++ drop (n + length (zeros k)) u ≡ take n u ++ zeros k ++ zeros (92 - (n + k)) = rw z (ap (λ (r : List ℕ). take n u ++ zeros k ++ r) (further k c)) in
+    let b : zeros k ++ zeros (92 - (n + k)) ≡ drop n u = zeros-append k (92 - (n + k)) ∙ ap zeros m ∙ sym (c .rest) in
+    let d : take n u ++ zeros k ++ zeros (92 - (n + k)) ≡ u = append-assoc (take n u) (zeros k) (zeros (92 - (n + k))) ∙ ap (λ (r : List ℕ). take n u ++ r) b ∙ take-append-drop n u in
+    record { is = sym (sets-eq (zeros k) u n l ∙ a ∙ d); clear = record { wide = c .wide; rest = further k c } }
+
+-- others are stored
+pub present : {u v : List ℕ} {n k : ℕ} (ws : List ℕ) → length ws ≡ k → Free u n k → v ≡ putAt u n ws → Put u n k ws v
+unfolding putAt
+present {u} {v} {n} {k} ws w f e =
+    let c = f .clear in
+    let l : n + length ws ≤ length u = omega (arith, w, f .room, c .wide) in
+    let t : length (take n u) ≡ n = length-take-le n u (omega (arith, f .room, c .wide)) in
+    let s : v ≡ take n u ++ ws ++ drop (n + length ws) u = e ∙ sets-eq ws u n l in
+    let a : length (take n u ++ ws) ≡ n + k = length-append (take n u) ws ∙ rw (t, w) refl in
+    let b : drop (n + k) v ≡ drop (n + length ws) u = rw (s, ← a) (drop-append-seam (take n u ++ ws) (drop (n + length ws) u)) in
+    let d : drop (n + length ws) u ≡ zeros (92 - (n + k)) = rw w (further k c) in
+    record { is = e; clear = record { wide = ap length e ∙ length-sets u n ws ∙ c .wide; rest = b ∙ d } }
+
+pub free : {u v ws : List ℕ} {n k : ℕ} (j : ℕ) → n + k + j ≤ 92 → Put u n k ws v → Free v (n + k) j
+free j h p = record { clear = p .clear; room = h }
+
+pub start : {u : List ℕ} {n : ℕ} (k : ℕ) → n + k ≤ 92 → Clear u n → Free u n k
+start k h c = record { clear = c; room = h }
+
+-- ---- all words cleared, one after the other
+
+pub record Cleared (u : List ℕ) (i : ℕ) : Type 0 where
+  pub wide : length u ≡ 92
+  pub front : take i u ≡ zeros i
+  pub low : i ≤ 92
+
+pub clear-start : {u : List ℕ} → length u ≡ 92 → Cleared u 0
+clear-start h = record { wide = h; front = refl; low = omega arith }
+
+pub clear-next : {u : List ℕ} {i : ℕ} → i < 92 → Cleared u i → Cleared (set u i 0) (i + 1)
+clear-next {u} {i} h c =
+    let l : i < length u = omega (arith, c .wide) in
+    let s : i + 1 ≡ suc i = add-one i in
+    record {
+      wide = length-set u i 0 ∙ c .wide;
+      front = rw s (take-suc-set u i 0 l ∙ ap (λ (r : List ℕ). r ++ (0 ∷ [])) (c .front)) ∙ zeros-append i 1;
+      low = omega arith;
+    }
+
+pub clear-done : {u : List ℕ} {i : ℕ} → 92 ≤ i → Cleared u i → Clear u 0
+clear-done {u} {i} h c =
+    let e : i ≡ 92 = omega (arith, c .low) in
+    let a : take i u ≡ u = take-all i u (omega (arith, c .wide)) in
+    record { wide = c .wide; rest = sym a ∙ c .front ∙ ap zeros e }
+
+-- ---- fields joined
 
 -- words stored from i up to n
 pub record Run (t : List ℕ) (i : ℕ) (ws : List ℕ) (n : ℕ) (u : List ℕ) : Type 0 where

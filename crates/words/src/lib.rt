@@ -5,7 +5,7 @@ ghost use Prim.Native.Nat.{_+_, _≤_};
 ghost use lib.ListN.{length};
 ghost use Rattle.words.specs.Words as Words;
 ghost use Rattle.words.specs.Words.{wordsFrom0, wordsFrom18, wordsFrom44, wordsFrom70};
-ghost use Rattle.words.specs.Inner.{putAt};
+ghost use Rattle.words.specs.Inner.{putAt, Clear, Free, Put};
 use state::OptBool;
 use state::OptF32;
 use state::OptI32;
@@ -85,48 +85,55 @@ fn put5(out: &mut [u32], at: usize, a: u32, b: u32, c: u32, d: u32, e: u32)
     out[at + 4] = e;
 }
 
-// ---- a field, from an index on
+// ---- a field, from an index on: all words from there on are 0, so that an absent option is there already
 
 fn put_f32(out: &mut [u32], at: usize, x: f32)
-    requires { ⌜ at + 1 ≤ length (now out) ⌝ }
-    ensures { λ _. ⌜ now (out .exit) ≡ putAt (now (out .entry)) at (Words.f32 x) ⌝ }
+    requires { ⌜ Free (now out) at 1 ⌝ }
+    ensures { λ _. ⌜ Put (now (out .entry)) at 1 (Words.f32 x) (now (out .exit)) ⌝ }
 {
     put1(out, at, float::word_of_f32(x));
 }
 
+fn put_byte(out: &mut [u32], at: usize, n: u8)
+    requires { ⌜ Free (now out) at 1 ⌝ }
+    ensures { λ _. ⌜ Put (now (out .entry)) at 1 (Words.number n) (now (out .exit)) ⌝ }
+{
+    put1(out, at, byte(n));
+}
+
 fn put_pair(out: &mut [u32], at: usize, p: Pair)
-    requires { ⌜ at + 2 ≤ length (now out) ⌝ }
-    ensures { λ _. ⌜ now (out .exit) ≡ putAt (now (out .entry)) at (Words.pair p) ⌝ }
+    requires { ⌜ Free (now out) at 2 ⌝ }
+    ensures { λ _. ⌜ Put (now (out .entry)) at 2 (Words.pair p) (now (out .exit)) ⌝ }
 {
     put2(out, at, float::word_of_f32(p.x), float::word_of_f32(p.y));
 }
 
 fn put_opt_f32(out: &mut [u32], at: usize, o: OptF32)
-    requires { ⌜ at + 2 ≤ length (now out) ⌝ }
-    ensures { λ _. ⌜ now (out .exit) ≡ putAt (now (out .entry)) at (Words.optF32 o) ⌝ }
+    requires { ⌜ Free (now out) at 2 ⌝ }
+    ensures { λ _. ⌜ Put (now (out .entry)) at 2 (Words.optF32 o) (now (out .exit)) ⌝ }
 {
     match o {
-        OptF32::None => put2(out, at, 0, 0),
+        OptF32::None => {}
         OptF32::Some(x) => put2(out, at, 1, float::word_of_f32(x)),
     }
 }
 
 fn put_opt_pair(out: &mut [u32], at: usize, o: OptPair)
-    requires { ⌜ at + 3 ≤ length (now out) ⌝ }
-    ensures { λ _. ⌜ now (out .exit) ≡ putAt (now (out .entry)) at (Words.optPair o) ⌝ }
+    requires { ⌜ Free (now out) at 3 ⌝ }
+    ensures { λ _. ⌜ Put (now (out .entry)) at 3 (Words.optPair o) (now (out .exit)) ⌝ }
 {
     match o {
-        OptPair::None => put3(out, at, 0, 0, 0),
+        OptPair::None => {}
         OptPair::Some(p) => put3(out, at, 1, float::word_of_f32(p.x), float::word_of_f32(p.y)),
     }
 }
 
 fn put_opt_rect(out: &mut [u32], at: usize, o: OptRect)
-    requires { ⌜ at + 5 ≤ length (now out) ⌝ }
-    ensures { λ _. ⌜ now (out .exit) ≡ putAt (now (out .entry)) at (Words.optRect o) ⌝ }
+    requires { ⌜ Free (now out) at 5 ⌝ }
+    ensures { λ _. ⌜ Put (now (out .entry)) at 5 (Words.optRect o) (now (out .exit)) ⌝ }
 {
     match o {
-        OptRect::None => put5(out, at, 0, 0, 0, 0, 0),
+        OptRect::None => {}
         OptRect::Some(r) => put5(
             out,
             at,
@@ -140,71 +147,71 @@ fn put_opt_rect(out: &mut [u32], at: usize, o: OptRect)
 }
 
 fn put_opt_rgb(out: &mut [u32], at: usize, o: OptRgb)
-    requires { ⌜ at + 4 ≤ length (now out) ⌝ }
-    ensures { λ _. ⌜ now (out .exit) ≡ putAt (now (out .entry)) at (Words.optRgb o) ⌝ }
+    requires { ⌜ Free (now out) at 4 ⌝ }
+    ensures { λ _. ⌜ Put (now (out .entry)) at 4 (Words.optRgb o) (now (out .exit)) ⌝ }
 {
     match o {
-        OptRgb::None => put4(out, at, 0, 0, 0, 0),
+        OptRgb::None => {}
         OptRgb::Some(c) => put4(out, at, 1, byte(c.red), byte(c.green), byte(c.blue)),
     }
 }
 
 fn put_opt_u8(out: &mut [u32], at: usize, o: OptU8)
-    requires { ⌜ at + 2 ≤ length (now out) ⌝ }
-    ensures { λ _. ⌜ now (out .exit) ≡ putAt (now (out .entry)) at (Words.optU8 o) ⌝ }
+    requires { ⌜ Free (now out) at 2 ⌝ }
+    ensures { λ _. ⌜ Put (now (out .entry)) at 2 (Words.optU8 o) (now (out .exit)) ⌝ }
 {
     match o {
-        OptU8::None => put2(out, at, 0, 0),
+        OptU8::None => {}
         OptU8::Some(n) => put2(out, at, 1, byte(n)),
     }
 }
 
 fn put_opt_u16(out: &mut [u32], at: usize, o: OptU16)
-    requires { ⌜ at + 2 ≤ length (now out) ⌝ }
-    ensures { λ _. ⌜ now (out .exit) ≡ putAt (now (out .entry)) at (Words.optU16 o) ⌝ }
+    requires { ⌜ Free (now out) at 2 ⌝ }
+    ensures { λ _. ⌜ Put (now (out .entry)) at 2 (Words.optU16 o) (now (out .exit)) ⌝ }
 {
     match o {
-        OptU16::None => put2(out, at, 0, 0),
+        OptU16::None => {}
         OptU16::Some(n) => put2(out, at, 1, half(n)),
     }
 }
 
 fn put_opt_i32(out: &mut [u32], at: usize, o: OptI32)
-    requires { ⌜ at + 2 ≤ length (now out) ⌝ }
-    ensures { λ _. ⌜ now (out .exit) ≡ putAt (now (out .entry)) at (Words.optI32 o) ⌝ }
+    requires { ⌜ Free (now out) at 2 ⌝ }
+    ensures { λ _. ⌜ Put (now (out .entry)) at 2 (Words.optI32 o) (now (out .exit)) ⌝ }
 {
     match o {
-        OptI32::None => put2(out, at, 0, 0),
+        OptI32::None => {}
         OptI32::Some(z) => put2(out, at, 1, float::to_word(z)),
     }
 }
 
 fn put_opt_bool(out: &mut [u32], at: usize, o: OptBool)
-    requires { ⌜ at + 2 ≤ length (now out) ⌝ }
-    ensures { λ _. ⌜ now (out .exit) ≡ putAt (now (out .entry)) at (Words.optBool o) ⌝ }
+    requires { ⌜ Free (now out) at 2 ⌝ }
+    ensures { λ _. ⌜ Put (now (out .entry)) at 2 (Words.optBool o) (now (out .exit)) ⌝ }
 {
     match o {
-        OptBool::None => put2(out, at, 0, 0),
+        OptBool::None => {}
         OptBool::Some(b) => put2(out, at, 1, flag(b)),
     }
 }
 
 fn put_opt_part(out: &mut [u32], at: usize, o: OptPart)
-    requires { ⌜ at + 3 ≤ length (now out) ⌝ }
-    ensures { λ _. ⌜ now (out .exit) ≡ putAt (now (out .entry)) at (Words.optPart o) ⌝ }
+    requires { ⌜ Free (now out) at 3 ⌝ }
+    ensures { λ _. ⌜ Put (now (out .entry)) at 3 (Words.optPart o) (now (out .exit)) ⌝ }
 {
     match o {
-        OptPart::None => put3(out, at, 0, 0, 0),
+        OptPart::None => {}
         OptPart::Some(p) => put3(out, at, 1, p.offset, p.size),
     }
 }
 
 fn put_opt_name(out: &mut [u32], at: usize, o: OptName)
-    requires { ⌜ at + 5 ≤ length (now out) ⌝ }
-    ensures { λ _. ⌜ now (out .exit) ≡ putAt (now (out .entry)) at (Words.optName o) ⌝ }
+    requires { ⌜ Free (now out) at 5 ⌝ }
+    ensures { λ _. ⌜ Put (now (out .entry)) at 5 (Words.optName o) (now (out .exit)) ⌝ }
 {
     match o {
-        OptName::None => put5(out, at, 0, 0, 0, 0, 0),
+        OptName::None => {}
         OptName::Some(n) => {
             let letters = n.letters;
             let parameter = n.parameter;
@@ -222,22 +229,36 @@ fn put_opt_name(out: &mut [u32], at: usize, o: OptName)
 }
 
 fn put_opt_reset(out: &mut [u32], at: usize, o: OptReset)
-    requires { ⌜ at + 3 ≤ length (now out) ⌝ }
-    ensures { λ _. ⌜ now (out .exit) ≡ putAt (now (out .entry)) at (Words.optReset o) ⌝ }
+    requires { ⌜ Free (now out) at 3 ⌝ }
+    ensures { λ _. ⌜ Put (now (out .entry)) at 3 (Words.optReset o) (now (out .exit)) ⌝ }
 {
     match o {
-        OptReset::None => put3(out, at, 0, 0, 0),
+        OptReset::None => {}
         OptReset::Plain => put3(out, at, 1, 0, 0),
         OptReset::Named(p) => put3(out, at, 2, p.offset, p.size),
     }
 }
 
-// ---- the state, in four parts: a function that writes one right behind another keeps few fields at hand
+// ---- the state
+
+// All words 0.
+pub fn clear(out: &mut [u32])
+    requires { ⌜ length (now out) ≡ 92 ⌝ }
+    ensures { λ _. ⌜ Clear (now (out .exit)) 0 ⌝ }
+{
+    let mut i: usize = 0;
+    while i < 92 {
+        out[i] = 0;
+        i += 1;
+    }
+}
+
+// Four parts, one behind another: each has few fields at hand.
 
 // alpha_mul to clip_drawing
 pub fn put_from_0(out: &mut [u32], st: RenderState)
-    requires { ⌜ 92 ≤ length (now out) ⌝ }
-    ensures { λ _. ⌜ now (out .exit) ≡ putAt (now (out .entry)) 0 (wordsFrom0 st) ⌝ }
+    requires { ⌜ Clear (now out) 0 ⌝ }
+    ensures { λ _. ⌜ Put (now (out .entry)) 0 18 (wordsFrom0 st) (now (out .exit)) ⌝ }
 {
     let always = st.always;
     let places = st.places;
@@ -260,8 +281,8 @@ pub fn put_from_0(out: &mut [u32], st: RenderState)
 
 // primary_color to iclip_drawing
 pub fn put_from_18(out: &mut [u32], st: RenderState)
-    requires { ⌜ 92 ≤ length (now out) ⌝ }
-    ensures { λ _. ⌜ now (out .exit) ≡ putAt (now (out .entry)) 18 (wordsFrom18 st) ⌝ }
+    requires { ⌜ Clear (now out) 18 ⌝ }
+    ensures { λ _. ⌜ Put (now (out .entry)) 18 26 (wordsFrom18 st) (now (out .exit)) ⌝ }
 {
     let colors = st.colors;
     let sizes = st.sizes;
@@ -279,7 +300,7 @@ pub fn put_from_18(out: &mut [u32], st: RenderState)
     put_opt_pair(out, 27, border);
     let shadow = places.shadow;
     put_opt_pair(out, 30, shadow);
-    put1(out, 33, byte(always.be_strength));
+    put_byte(out, 33, always.be_strength);
     let shear = always.shear;
     put_pair(out, 34, shear);
     let iclip_rect = clips.iclip_rect;
@@ -290,8 +311,8 @@ pub fn put_from_18(out: &mut [u32], st: RenderState)
 
 // secondary_color to alignment
 pub fn put_from_44(out: &mut [u32], st: RenderState)
-    requires { ⌜ 92 ≤ length (now out) ⌝ }
-    ensures { λ _. ⌜ now (out .exit) ≡ putAt (now (out .entry)) 44 (wordsFrom44 st) ⌝ }
+    requires { ⌜ Clear (now out) 44 ⌝ }
+    ensures { λ _. ⌜ Put (now (out .entry)) 44 26 (wordsFrom44 st) (now (out .exit)) ⌝ }
 {
     let colors = st.colors;
     let alphas = st.alphas;
@@ -321,8 +342,8 @@ pub fn put_from_44(out: &mut [u32], st: RenderState)
 
 // font_name to drawing_scale
 pub fn put_from_70(out: &mut [u32], st: RenderState)
-    requires { ⌜ 92 ≤ length (now out) ⌝ }
-    ensures { λ _. ⌜ now (out .exit) ≡ putAt (now (out .entry)) 70 (wordsFrom70 st) ⌝ }
+    requires { ⌜ Clear (now out) 70 ⌝ }
+    ensures { λ _. ⌜ Put (now (out .entry)) 70 22 (wordsFrom70 st) (now (out .exit)) ⌝ }
 {
     let font = st.font;
     let line = st.line;

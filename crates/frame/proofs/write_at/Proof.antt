@@ -428,9 +428,9 @@ returns-51 c =
 
 returns-52 : tie.Need-returns-52 Inv-loop μ-loop
 returns-52 c =
-    let s = c .before .before .before .before .before .before .before .before .before .before .before .before .before .before .before .before in
-    let e = rw (toZ-ofZ w32 (s .args .t) (s .fits .t), toZ-ofZ w32 (s .args .dur) (s .fits .dur)) at (end-state (c .before .before .before .before .before .before .before .before .before .before .before .before .loop .inv) (c .before .before .before .before .before .before .before .before .before .before .before .loop-test .left) (c .before .before .before .before .before .before .before .before .before .before .after-records .ensures) (c .before .before .before .before .before .before .before .before .enum-told2 .given .1) (c .before .before .before .before .before .before .before .before .before .before .before .before .before .before .identity .ensures)) in
-    framed e (whole _ _ _ _ _ _ (search needs) (c .before .before .before .before .before .before .put-from-0 .ensures) (c .before .before .before .before .put-from-18 .ensures) (c .before .before .put-from-44 .ensures) (c .put-from-70 .ensures))
+    let s = c .before .before .before .before .before .before .before .before .before .before .before .before .before .before .before .before .before .before in
+    let e = rw (toZ-ofZ w32 (s .args .t) (s .fits .t), toZ-ofZ w32 (s .args .dur) (s .fits .dur)) at (end-state (c .before .before .before .before .before .before .before .before .before .before .before .before .before .before .loop .inv) (c .before .before .before .before .before .before .before .before .before .before .before .before .before .loop-test .left) (c .before .before .before .before .before .before .before .before .before .before .before .before .after-records .ensures) (c .before .before .before .before .before .before .before .before .before .before .enum-told2 .given .1) (c .before .before .before .before .before .before .before .before .before .before .before .before .before .before .before .before .identity .ensures)) in
+    framed e (whole _ _ _ _ _ _ (c .before .before .before .before .before .before .before .before .clear .ensures .wide) (c .before .before .before .before .before .before .put-from-0 .ensures .is) (c .before .before .before .before .put-from-18 .ensures .is) (c .before .before .put-from-44 .ensures .is) (c .put-from-70 .ensures .is))
 
 pub write-at-spec : {M : Type 1} → statement M
 write-at-spec = tie.close (tie.spec Inv-loop μ-loop
@@ -795,6 +795,7 @@ write-at-spec = tie.close (tie.spec Inv-loop μ-loop
     (λ c κs. search needs)
     (λ c. search needs)
     (λ c. search needs)
+    (λ c κs. search needs)
     (λ c κs. search needs)
     (λ c κs. search needs)
     (λ c κs. search needs)

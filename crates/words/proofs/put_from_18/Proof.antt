@@ -1,5 +1,4 @@
-use mathlib.Core.Path.{refl}
-use native.Mathlib.Omega.{arith}
+use mathlib.Core.Path.{refl, sym, _∙_}
 use Rattle.words.specs.Words.{number, optF32, optPair, optPart, optRect, optRgb, pair}
 use Rattle.words.proofs.Laws.{first, next, wide-optF32, wide-optPair, wide-optPart, wide-optRect, wide-optRgb}
 use borrow.Author.Needs.{needs}
@@ -21,37 +20,34 @@ put-opt-pair-requires-2 c κs = search needs
 put-opt-pair-requires-3 : tie.Need-put-opt-pair-requires-3
 put-opt-pair-requires-3 c κs = search needs
 
-byte-requires : tie.Need-byte-requires
-byte-requires c κs = search needs
-
-put1-requires : tie.Need-put1-requires
-put1-requires c κs = search needs
+put-byte-requires : tie.Need-put-byte-requires
+put-byte-requires c κs = search needs
 
 put-pair-requires : tie.Need-put-pair-requires
 put-pair-requires c κs = search needs
 
 put-opt-rect-requires : tie.Need-put-opt-rect-requires
-put-opt-rect-requires c κs = omega (arith, c .before .before .before .before .before .before .before .before .before .before .before .before .before .before .before .before .before .before .before .before .before .before .before .before .before .before .before .before .before .before .before .before .before .before .before .before .before .before .pre, c .before .before .before .put-pair .kept .0, c .before .before .before .before .before .before .before .before .put1 .kept .0, c .before .before .before .before .before .before .before .before .before .before .before .before .before .put-opt-pair3 .kept .0, c .before .before .before .before .before .before .before .before .before .before .before .before .before .before .before .before .before .put-opt-pair2 .kept .0, c .before .before .before .before .before .before .before .before .before .before .before .before .before .before .before .before .before .before .before .before .before .put-opt-pair .kept .0, c .before .before .before .before .before .before .before .before .before .before .before .before .before .before .before .before .before .before .before .before .before .before .before .before .before .put-opt-f32 .kept .0, c .before .before .before .before .before .before .before .before .before .before .before .before .before .before .before .before .before .before .before .before .before .before .before .before .before .before .before .before .before .put-opt-rgb .kept .0)
+put-opt-rect-requires c κs = search needs
 
 put-opt-part-requires : tie.Need-put-opt-part-requires
-put-opt-part-requires c κs = omega (arith, c .before .before .before .before .before .before .before .before .before .before .before .before .before .before .before .before .before .before .before .before .before .before .before .before .before .before .before .before .before .before .before .before .before .before .before .before .before .before .before .before .before .before .pre, c .before .before .before .put-opt-rect .kept .0, c .before .before .before .before .before .before .before .put-pair .kept .0, c .before .before .before .before .before .before .before .before .before .before .before .before .put1 .kept .0, c .before .before .before .before .before .before .before .before .before .before .before .before .before .before .before .before .before .put-opt-pair3 .kept .0, c .before .before .before .before .before .before .before .before .before .before .before .before .before .before .before .before .before .before .before .before .before .put-opt-pair2 .kept .0, c .before .before .before .before .before .before .before .before .before .before .before .before .before .before .before .before .before .before .before .before .before .before .before .before .before .put-opt-pair .kept .0, c .before .before .before .before .before .before .before .before .before .before .before .before .before .before .before .before .before .before .before .before .before .before .before .before .before .before .before .before .before .put-opt-f32 .kept .0, c .before .before .before .before .before .before .before .before .before .before .before .before .before .before .before .before .before .before .before .before .before .before .before .before .before .before .before .before .before .before .before .before .before .put-opt-rgb .kept .0)
+put-opt-part-requires c κs = search needs
 
 same-length : tie.Need-same-length
-same-length c = omega (arith, c .before .before .before .before .before .before .before .before .before .before .before .before .before .before .before .before .before .before .before .before .before .before .before .before .before .before .before .before .before .before .before .before .before .before .before .before .before .before .before .before .before .before .before .before .before .pre, c .before .before .put-opt-part .kept .0, c .before .before .before .before .before .before .put-opt-rect .kept .0, c .before .before .before .before .before .before .before .before .before .before .put-pair .kept .0, c .before .before .before .before .before .before .before .before .before .before .before .before .before .before .before .put1 .kept .0, c .before .before .before .before .before .before .before .before .before .before .before .before .before .before .before .before .before .before .before .before .put-opt-pair3 .kept .0, c .before .before .before .before .before .before .before .before .before .before .before .before .before .before .before .before .before .before .before .before .before .before .before .before .put-opt-pair2 .kept .0, c .before .before .before .before .before .before .before .before .before .before .before .before .before .before .before .before .before .before .before .before .before .before .before .before .before .before .before .before .put-opt-pair .kept .0, c .before .before .before .before .before .before .before .before .before .before .before .before .before .before .before .before .before .before .before .before .before .before .before .before .before .before .before .before .before .before .before .before .put-opt-f32 .kept .0, c .before .before .before .before .before .before .before .before .before .before .before .before .before .before .before .before .before .before .before .before .before .before .before .before .before .before .before .before .before .before .before .before .before .before .before .before .put-opt-rgb .kept .0)
+same-length c = c .before .before .put-opt-part .ensures .clear .wide ∙ sym (c .before .before .before .before .before .before .before .before .before .before .before .before .before .before .before .before .before .before .before .before .before .before .before .before .before .before .before .before .before .before .before .before .before .before .before .before .before .before .before .before .before .before .before .before .pre .wide)
 
 returns : tie.Need-returns
 returns c =
-    let st = c .before .before .before .before .before .before .before .before .before .before .before .before .before .before .before .before .before .before .before .before .before .before .before .before .before .before .before .before .before .before .before .before .before .before .before .before .before .before .before .before .before .before .before .before .before .args .st in
-    let r0 = first (optRgb (st .colors .«primary_color»)) 4 (wide-optRgb (st .colors .«primary_color»)) (c .before .before .before .before .before .before .before .before .before .before .before .before .before .before .before .before .before .before .before .before .before .before .before .before .before .before .before .before .before .before .before .before .before .before .before .before .put-opt-rgb .ensures) in
-    let r1 = next (optF32 (st .sizes .«font_size»)) 2 (wide-optF32 (st .sizes .«font_size»)) r0 (c .before .before .before .before .before .before .before .before .before .before .before .before .before .before .before .before .before .before .before .before .before .before .before .before .before .before .before .before .before .before .before .before .put-opt-f32 .ensures) in
-    let r2 = next (optPair (st .line .pivot)) 3 (wide-optPair (st .line .pivot)) r1 (c .before .before .before .before .before .before .before .before .before .before .before .before .before .before .before .before .before .before .before .before .before .before .before .before .before .before .before .before .put-opt-pair .ensures) in
-    let r3 = next (optPair (st .places .border)) 3 (wide-optPair (st .places .border)) r2 (c .before .before .before .before .before .before .before .before .before .before .before .before .before .before .before .before .before .before .before .before .before .before .before .before .put-opt-pair2 .ensures) in
-    let r4 = next (optPair (st .places .shadow)) 3 (wide-optPair (st .places .shadow)) r3 (c .before .before .before .before .before .before .before .before .before .before .before .before .before .before .before .before .before .before .before .before .put-opt-pair3 .ensures) in
-    let r5 = next (number (st .always .«be_strength»)) 1 refl r4 (rw (c .before .before .before .before .before .before .before .before .before .before .before .before .before .before .before .before .byte .ensures) at (c .before .before .before .before .before .before .before .before .before .before .before .before .before .before .before .put1 .ensures)) in
-    let r6 = next (pair (st .always .shear)) 2 refl r5 (c .before .before .before .before .before .before .before .before .before .before .put-pair .ensures) in
-    let r7 = next (optRect (st .clips .«iclip_rect»)) 5 (wide-optRect (st .clips .«iclip_rect»)) r6 (c .before .before .before .before .before .before .put-opt-rect .ensures) in
-    let r8 = next (optPart (st .line .«iclip_drawing»)) 3 (wide-optPart (st .line .«iclip_drawing»)) r7 (c .before .before .put-opt-part .ensures) in
-    r8 .is
+    let st = c .before .before .before .before .before .before .before .before .before .before .before .before .before .before .before .before .before .before .before .before .before .before .before .before .before .before .before .before .before .before .before .before .before .before .before .before .before .before .before .before .before .before .before .before .args .st in
+    let r0 = first (optRgb (st .colors .«primary_color»)) 4 (wide-optRgb (st .colors .«primary_color»)) (c .before .before .before .before .before .before .before .before .before .before .before .before .before .before .before .before .before .before .before .before .before .before .before .before .before .before .before .before .before .before .before .before .before .before .before .put-opt-rgb .ensures .is) in
+    let r1 = next (optF32 (st .sizes .«font_size»)) 2 (wide-optF32 (st .sizes .«font_size»)) r0 (c .before .before .before .before .before .before .before .before .before .before .before .before .before .before .before .before .before .before .before .before .before .before .before .before .before .before .before .before .before .before .before .put-opt-f32 .ensures .is) in
+    let r2 = next (optPair (st .line .pivot)) 3 (wide-optPair (st .line .pivot)) r1 (c .before .before .before .before .before .before .before .before .before .before .before .before .before .before .before .before .before .before .before .before .before .before .before .before .before .before .before .put-opt-pair .ensures .is) in
+    let r3 = next (optPair (st .places .border)) 3 (wide-optPair (st .places .border)) r2 (c .before .before .before .before .before .before .before .before .before .before .before .before .before .before .before .before .before .before .before .before .before .before .before .put-opt-pair2 .ensures .is) in
+    let r4 = next (optPair (st .places .shadow)) 3 (wide-optPair (st .places .shadow)) r3 (c .before .before .before .before .before .before .before .before .before .before .before .before .before .before .before .before .before .before .before .put-opt-pair3 .ensures .is) in
+    let r5 = next (number (st .always .«be_strength»)) 1 refl r4 (c .before .before .before .before .before .before .before .before .before .before .before .before .before .before .before .put-byte .ensures .is) in
+    let r6 = next (pair (st .always .shear)) 2 refl r5 (c .before .before .before .before .before .before .before .before .before .before .put-pair .ensures .is) in
+    let r7 = next (optRect (st .clips .«iclip_rect»)) 5 (wide-optRect (st .clips .«iclip_rect»)) r6 (c .before .before .before .before .before .before .put-opt-rect .ensures .is) in
+    let r8 = next (optPart (st .line .«iclip_drawing»)) 3 (wide-optPart (st .line .«iclip_drawing»)) r7 (c .before .before .put-opt-part .ensures .is) in
+    record { is = r8 .is; clear = c .before .before .put-opt-part .ensures .clear }
 
 pub put-from-18-spec : {M : Type 1} → statement M
 put-from-18-spec =
@@ -62,8 +58,7 @@ put-from-18-spec =
     put-opt-pair-requires
     put-opt-pair-requires-2
     put-opt-pair-requires-3
-    byte-requires
-    put1-requires
+    put-byte-requires
     put-pair-requires
     put-opt-rect-requires
     put-opt-part-requires

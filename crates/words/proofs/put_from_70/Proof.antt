@@ -1,5 +1,4 @@
-use mathlib.Core.Path.{refl}
-use native.Mathlib.Omega.{arith}
+use mathlib.Core.Path.{refl, sym, _∙_}
 use Rattle.words.specs.Words.{optBool, optI32, optName, optReset, optU16, optU8}
 use Rattle.words.proofs.Laws.{first, next, wide-optBool, wide-optI32, wide-optName, wide-optReset, wide-optU16, wide-optU8}
 use borrow.Author.Needs.{needs}
@@ -31,24 +30,24 @@ put-opt-i32-requires : tie.Need-put-opt-i32-requires
 put-opt-i32-requires c κs = search needs
 
 put-opt-u8-requires-2 : tie.Need-put-opt-u8-requires-2
-put-opt-u8-requires-2 c κs = omega (arith, c .before .before .before .before .before .before .before .before .before .before .before .before .before .before .before .before .before .before .before .before .before .before .before .before .before .before .before .before .before .before .before .before .before .before .before .before .before .pre, c .before .before .before .put-opt-i32 .kept .0, c .before .before .before .before .before .before .before .put-opt-bool3 .kept .0, c .before .before .before .before .before .before .before .before .before .before .before .put-opt-bool2 .kept .0, c .before .before .before .before .before .before .before .before .before .before .before .before .before .before .before .put-opt-bool .kept .0, c .before .before .before .before .before .before .before .before .before .before .before .before .before .before .before .before .before .before .before .put-opt-reset .kept .0, c .before .before .before .before .before .before .before .before .before .before .before .before .before .before .before .before .before .before .before .before .before .before .before .put-opt-u16 .kept .0, c .before .before .before .before .before .before .before .before .before .before .before .before .before .before .before .before .before .before .before .before .before .before .before .before .before .before .before .put-opt-u8 .kept .0, c .before .before .before .before .before .before .before .before .before .before .before .before .before .before .before .before .before .before .before .before .before .before .before .before .before .before .before .before .before .before .before .put-opt-name .kept .0)
+put-opt-u8-requires-2 c κs = search needs
 
 same-length : tie.Need-same-length
-same-length c = omega (arith, c .before .before .before .before .before .before .before .before .before .before .before .before .before .before .before .before .before .before .before .before .before .before .before .before .before .before .before .before .before .before .before .before .before .before .before .before .before .before .before .before .pre, c .before .before .put-opt-u82 .kept .0, c .before .before .before .before .before .before .put-opt-i32 .kept .0, c .before .before .before .before .before .before .before .before .before .before .put-opt-bool3 .kept .0, c .before .before .before .before .before .before .before .before .before .before .before .before .before .before .put-opt-bool2 .kept .0, c .before .before .before .before .before .before .before .before .before .before .before .before .before .before .before .before .before .before .put-opt-bool .kept .0, c .before .before .before .before .before .before .before .before .before .before .before .before .before .before .before .before .before .before .before .before .before .before .put-opt-reset .kept .0, c .before .before .before .before .before .before .before .before .before .before .before .before .before .before .before .before .before .before .before .before .before .before .before .before .before .before .put-opt-u16 .kept .0, c .before .before .before .before .before .before .before .before .before .before .before .before .before .before .before .before .before .before .before .before .before .before .before .before .before .before .before .before .before .before .put-opt-u8 .kept .0, c .before .before .before .before .before .before .before .before .before .before .before .before .before .before .before .before .before .before .before .before .before .before .before .before .before .before .before .before .before .before .before .before .before .before .put-opt-name .kept .0)
+same-length c = c .before .before .put-opt-u82 .ensures .clear .wide ∙ sym (c .before .before .before .before .before .before .before .before .before .before .before .before .before .before .before .before .before .before .before .before .before .before .before .before .before .before .before .before .before .before .before .before .before .before .before .before .before .before .before .before .pre .wide)
 
 returns : tie.Need-returns
 returns c =
     let st = c .before .before .before .before .before .before .before .before .before .before .before .before .before .before .before .before .before .before .before .before .before .before .before .before .before .before .before .before .before .before .before .before .before .before .before .before .before .before .before .before .args .st in
-    let r0 = first (optName (st .font .«font_name»)) 5 (wide-optName (st .font .«font_name»)) (c .before .before .before .before .before .before .before .before .before .before .before .before .before .before .before .before .before .before .before .before .before .before .before .before .before .before .before .before .before .before .before .before .before .before .put-opt-name .ensures) in
-    let r1 = next (optU8 (st .font .«font_encoding»)) 2 (wide-optU8 (st .font .«font_encoding»)) r0 (c .before .before .before .before .before .before .before .before .before .before .before .before .before .before .before .before .before .before .before .before .before .before .before .before .before .before .before .before .before .before .put-opt-u8 .ensures) in
-    let r2 = next (optU16 (st .font .«bold_weight»)) 2 (wide-optU16 (st .font .«bold_weight»)) r1 (c .before .before .before .before .before .before .before .before .before .before .before .before .before .before .before .before .before .before .before .before .before .before .before .before .before .before .put-opt-u16 .ensures) in
-    let r3 = next (optReset (st .line .«reset_to_style»)) 3 (wide-optReset (st .line .«reset_to_style»)) r2 (c .before .before .before .before .before .before .before .before .before .before .before .before .before .before .before .before .before .before .before .before .before .before .put-opt-reset .ensures) in
-    let r4 = next (optBool (st .font .italic)) 2 (wide-optBool (st .font .italic)) r3 (c .before .before .before .before .before .before .before .before .before .before .before .before .before .before .before .before .before .before .put-opt-bool .ensures) in
-    let r5 = next (optBool (st .font .underline)) 2 (wide-optBool (st .font .underline)) r4 (c .before .before .before .before .before .before .before .before .before .before .before .before .before .before .put-opt-bool2 .ensures) in
-    let r6 = next (optBool (st .font .strikeout)) 2 (wide-optBool (st .font .strikeout)) r5 (c .before .before .before .before .before .before .before .before .before .before .put-opt-bool3 .ensures) in
-    let r7 = next (optI32 (st .sizes .«drawing_baseline_offset»)) 2 (wide-optI32 (st .sizes .«drawing_baseline_offset»)) r6 (c .before .before .before .before .before .before .put-opt-i32 .ensures) in
-    let r8 = next (optU8 (st .line .«drawing_scale»)) 2 (wide-optU8 (st .line .«drawing_scale»)) r7 (c .before .before .put-opt-u82 .ensures) in
-    r8 .is
+    let r0 = first (optName (st .font .«font_name»)) 5 (wide-optName (st .font .«font_name»)) (c .before .before .before .before .before .before .before .before .before .before .before .before .before .before .before .before .before .before .before .before .before .before .before .before .before .before .before .before .before .before .before .before .before .before .put-opt-name .ensures .is) in
+    let r1 = next (optU8 (st .font .«font_encoding»)) 2 (wide-optU8 (st .font .«font_encoding»)) r0 (c .before .before .before .before .before .before .before .before .before .before .before .before .before .before .before .before .before .before .before .before .before .before .before .before .before .before .before .before .before .before .put-opt-u8 .ensures .is) in
+    let r2 = next (optU16 (st .font .«bold_weight»)) 2 (wide-optU16 (st .font .«bold_weight»)) r1 (c .before .before .before .before .before .before .before .before .before .before .before .before .before .before .before .before .before .before .before .before .before .before .before .before .before .before .put-opt-u16 .ensures .is) in
+    let r3 = next (optReset (st .line .«reset_to_style»)) 3 (wide-optReset (st .line .«reset_to_style»)) r2 (c .before .before .before .before .before .before .before .before .before .before .before .before .before .before .before .before .before .before .before .before .before .before .put-opt-reset .ensures .is) in
+    let r4 = next (optBool (st .font .italic)) 2 (wide-optBool (st .font .italic)) r3 (c .before .before .before .before .before .before .before .before .before .before .before .before .before .before .before .before .before .before .put-opt-bool .ensures .is) in
+    let r5 = next (optBool (st .font .underline)) 2 (wide-optBool (st .font .underline)) r4 (c .before .before .before .before .before .before .before .before .before .before .before .before .before .before .put-opt-bool2 .ensures .is) in
+    let r6 = next (optBool (st .font .strikeout)) 2 (wide-optBool (st .font .strikeout)) r5 (c .before .before .before .before .before .before .before .before .before .before .put-opt-bool3 .ensures .is) in
+    let r7 = next (optI32 (st .sizes .«drawing_baseline_offset»)) 2 (wide-optI32 (st .sizes .«drawing_baseline_offset»)) r6 (c .before .before .before .before .before .before .put-opt-i32 .ensures .is) in
+    let r8 = next (optU8 (st .line .«drawing_scale»)) 2 (wide-optU8 (st .line .«drawing_scale»)) r7 (c .before .before .put-opt-u82 .ensures .is) in
+    record { is = r8 .is; clear = c .before .before .put-opt-u82 .ensures .clear }
 
 pub put-from-70-spec : {M : Type 1} → statement M
 put-from-70-spec =

@@ -1,6 +1,8 @@
 use mir.Syntax.{w32}
 use mir.Facts.{toZ-ofZ}
+use mathlib.Core.Path.{refl}
 use Rattle.words.specs.Words.{optI32}
+use Rattle.words.proofs.Laws.{absent, present}
 use borrow.Author.Needs.{needs}
 use Rattle.words.proofs.put_opt_i32.Statement.{statement}
 use Rattle.words.proofs.put_opt_i32.Tie as tie
@@ -8,45 +10,30 @@ use Rattle.words.proofs.put_opt_i32.Tie as tie
 enum-told : tie.Need-enum-told
 enum-told c = search needs
 
-put2-requires : tie.Need-put2-requires
-put2-requires c κs = search needs
-
 enum-known-o : tie.Need-enum-known-o
 enum-known-o c = search needs
 
 to-word-requires : tie.Need-to-word-requires
 to-word-requires c κs = search needs
 
-put2-requires-2 : tie.Need-put2-requires-2
-put2-requires-2 c κs = search needs
-
-same-length : tie.Need-same-length
-same-length c = search needs
+put2-requires : tie.Need-put2-requires
+put2-requires c κs = search needs
 
 returns : tie.Need-returns
 unfolding optI32
-returns c = rw (c .before .before .before .before .enum-told .given .1) (c .before .before .put2 .ensures)
+returns c = rw (c .enum-told .given .1) (absent (c .before .before .before .pre))
 
-same-length-2 : tie.Need-same-length-2
-same-length-2 c = search needs
+same-length : tie.Need-same-length
+same-length c = search needs
 
 returns-2 : tie.Need-returns-2
 unfolding optI32
 returns-2 c =
     let o = c .before .before .before .before .before .before .o .given in
     let z = toZ-ofZ {w = w32} {z = o .0 .0} (record { sfits = c .before .before .before .before .before .known-told .given .0 .1 }) in
-    rw (o .1, ← z, ← c .before .before .before .to-word .ensures) (c .before .before .put22 .ensures)
+    rw (o .1) (present _ refl (c .before .before .before .before .before .before .before .before .before .pre) (rw (← z, ← c .before .before .before .to-word .ensures) (c .before .before .put2 .ensures)))
 
 pub put-opt-i32-spec : {M : Type 1} → statement M
 put-opt-i32-spec =
     tie.close
-    (tie.spec
-    enum-told
-    put2-requires
-    enum-known-o
-    to-word-requires
-    put2-requires-2
-    same-length
-    returns
-    same-length-2
-    returns-2)
+    (tie.spec enum-told enum-known-o to-word-requires put2-requires returns same-length returns-2)
