@@ -21,9 +21,6 @@ for tool in rt cargo rustc python3 nm gcc script; do
     command -v "$tool" >/dev/null || fail "$tool is not on PATH"
 done
 
-listed() { grep -Eq "^[[:space:]]*$1[[:space:]]*:" crates.txt; }
-exported() { grep -Eqs "fn[[:space:]]+$1\(" crates/hannuvel/src/*.rt; }
-
 # ---- rt ci. It removes target/, so its output is kept elsewhere until it has ended.
 kept=$(mktemp)
 trap 'rm -f "$kept"' EXIT
@@ -43,18 +40,14 @@ proving=$((SECONDS - began))
 # ---- the Rust side, over what rt ci has proved
 began=$SECONDS
 rt staticlib leaves || fail "rt staticlib leaves ended with status $?"
-if listed hannuvel; then
-    rt staticlib hannuvel || fail "rt staticlib hannuvel ended with status $?"
-    say "the example in C"
-    examples/c/check.sh || fail "examples/c/check.sh ended with status $?"
-    say "the crate in Rust"
-    host/cargo.sh test --release -p hannuvel || fail "cargo test of the crate in Rust ended with status $?"
-    say "the desk tool"
-    INSTA_UPDATE=no host/cargo.sh test --release -p hannuvel-desk ||
-        fail "cargo test of the desk tool ended with status $?"
-else
-    say "NOT RUN: crates.txt has no hannuvel, so there is no C interface to compare"
-fi
+rt staticlib hannuvel || fail "rt staticlib hannuvel ended with status $?"
+say "the example in C"
+examples/c/check.sh || fail "examples/c/check.sh ended with status $?"
+say "the crate in Rust"
+host/cargo.sh test --release -p hannuvel || fail "cargo test of the crate in Rust ended with status $?"
+say "the desk tool"
+INSTA_UPDATE=no host/cargo.sh test --release -p hannuvel-desk ||
+    fail "cargo test of the desk tool ended with status $?"
 (cd oracle && cargo test --release --offline) || fail "cargo test ended with status $?"
 (cd oracle && cargo build --release --offline) || fail "cargo build ended with status $?"
 
@@ -62,22 +55,16 @@ compare() { # SUITE OPTIONS..
     say "compare $*"
     "$CARGO_TARGET_DIR/release/compare" "$@" || fail "compare $* ended with status $?"
 }
-compare_call() { # FUNCTION SUITE OPTIONS..
-    local function=$1
-    shift
-    if exported "$function"; then compare "$@"; else say "NOT RUN: compare $1, as hannuvel has no $function"; fi
-}
+# A suite whose call is not in the archive fails.
 compare leaves --count 20000 --random-only
-if listed hannuvel; then
-    compare_call hannuvel_parse_overrides blocks --count 20000
-    compare_call hannuvel_parse_drawing drawings --count 20000
-    compare_call hannuvel_split_clip_arg clips --count 20000
-    compare_call hannuvel_evaluate_at evaluate --count 20000
-    compare_call hannuvel_next_mark marks --count 20000
-    compare_call hannuvel_karaoke_spans karaoke --count 20000 --random-only
-    compare_call hannuvel_progress progress --count 20000 --random-only
-    compare_call hannuvel_style_in_force styles --count 20000 --random-only
-fi
+compare blocks --count 20000
+compare drawings --count 20000
+compare clips --count 20000
+compare evaluate --count 20000
+compare marks --count 20000
+compare karaoke --count 20000 --random-only
+compare progress --count 20000 --random-only
+compare styles --count 20000 --random-only
 
 say "rt ci took $proving s, the Rust side $((SECONDS - began)) s; rt ci's output is in target/ci.log"
 printf '%s\n' "$verdict"
