@@ -1,5 +1,4 @@
 // The state at an instant straight into the 92 words of the C interface, in one pass over the table.
-ghost use mathlib.Core.Path.{_≡_};
 ghost use Rattle.frame.specs.Frame.{Framed};
 use apply::values::both;
 use apply::values::byte;

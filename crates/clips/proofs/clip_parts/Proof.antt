@@ -12,35 +12,8 @@ use Rattle.scan.proofs.span.Reads as span-reads
 use Rattle.scan.proofs.trim_end.Reads as trim-end-reads
 use Rattle.scan.proofs.trim_start.Reads as trim-start-reads
 
-trim-start-requires : tie.Need-trim-start-requires
-trim-start-requires c κs = search needs
-
-past-requires : tie.Need-past-requires
-past-requires c κs = search needs
-
 returns : tie.Need-returns
 returns c = record { is = clip-bare _ (c .before .before .trim-start .ensures .is) (sym (c .before .past .ensures .is) ∙ c .if1 .taken); order = search needs; high = search needs }
-
-span-requires : tie.Need-span-requires
-span-requires c κs = search needs
-
-trim-end-requires : tie.Need-trim-end-requires
-trim-end-requires c κs = search needs
-
-whole-number-requires : tie.Need-whole-number-requires
-whole-number-requires c κs = search needs
-
-add-trim-start : tie.Need-add-trim-start
-add-trim-start c = search needs
-
-trim-start-requires-2 : tie.Need-trim-start-requires-2
-trim-start-requires-2 c κs = search needs
-
-cast-at-least-one : tie.Need-cast-at-least-one
-cast-at-least-one c = search needs
-
-at-least-one-requires : tie.Need-at-least-one-requires
-at-least-one-requires c κs = search needs
 
 returns-2 : tie.Need-returns-2
 returns-2 c = record { is = clip-some _ (c .before .before .before .before .before .before .before .before .before .trim-start .ensures .is) (c .before .before .before .before .before .before .span .ensures .is) (c .before .before .before .before .trim-end .ensures .is) (c .before .before .before .whole-number .ensures) (c .before .before .before .before .before .if2 .taken) (c .before .before .if3 .taken) (c .before .trim-start2 .ensures .is) (c .at-least-one .ensures); order = search needs; high = search needs }
@@ -55,16 +28,4 @@ pub clip-parts-spec : {M : Type 1} → statement M
 clip-parts-spec =
     tie.close
     (tie.spec
-    trim-start-requires
-    past-requires
-    returns
-    span-requires
-    trim-end-requires
-    whole-number-requires
-    add-trim-start
-    trim-start-requires-2
-    cast-at-least-one
-    at-least-one-requires
-    returns-2
-    returns-3
-    returns-4)
+    (λ c κs. search needs) (λ c κs. search needs) returns (λ c κs. search needs) (λ c κs. search needs) (λ c κs. search needs) (λ c. search needs) (λ c κs. search needs) (λ c. search needs) (λ c κs. search needs) returns-2 returns-3 returns-4)

@@ -5,18 +5,6 @@ use borrow.Author.Needs.{needs}
 use Rattle.clips.proofs.clip_rest.Statement.{statement}
 use Rattle.clips.proofs.clip_rest.Tie as tie
 
-clip-at-requires : tie.Need-clip-at-requires
-clip-at-requires c κs = search needs
-
-sub-result : tie.Need-sub-result
-sub-result c = search needs
-
-part-result-start : tie.Need-part-result-start
-part-result-start c = search needs
-
-part-result-end : tie.Need-part-result-end
-part-result-end c = search needs
-
 returns : tie.Need-returns
 returns c =
     let e = c .before .clip-at .ensures in
@@ -25,4 +13,6 @@ returns c =
 
 pub clip-rest-spec : {M : Type 1} → statement M
 clip-rest-spec =
-    tie.close (tie.spec clip-at-requires sub-result part-result-start part-result-end returns)
+    tie.close
+    (tie.spec
+    (λ c κs. search needs) (λ c. search needs) (λ c. search needs) (λ c. search needs) returns)

@@ -4,11 +4,10 @@ use borrow.Author.Needs.{needs}
 use Rattle.clips.proofs.clip_scale.Statement.{statement}
 use Rattle.clips.proofs.clip_scale.Tie as tie
 
-clip-at-requires : tie.Need-clip-at-requires
-clip-at-requires c κs = search needs
-
 returns : tie.Need-returns
 returns c = ap (λ (x : Clip). x .scale) (c .clip-at .ensures .is)
 
 pub clip-scale-spec : {M : Type 1} → statement M
-clip-scale-spec = tie.close (tie.spec clip-at-requires returns)
+clip-scale-spec = tie.close
+    (tie.spec
+    (λ c κs. search needs) returns)

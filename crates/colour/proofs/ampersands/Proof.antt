@@ -3,12 +3,6 @@ use borrow.Author.Needs.{needs}
 use Rattle.colour.proofs.ampersands.Statement.{statement}
 use Rattle.colour.proofs.ampersands.Tie as tie
 
-span-requires : tie.Need-span-requires
-span-requires c κs = search needs
-
-span-back-requires : tie.Need-span-back-requires
-span-back-requires c κs = search needs
-
 returns : tie.Need-returns
 unfolding ampersands
 returns c =
@@ -17,4 +11,6 @@ returns c =
     record { is = rw (b .is, a .is); low = a .low; order = b .low; high = b .high }
 
 pub ampersands-spec : {M : Type 1} → statement M
-ampersands-spec = tie.close (tie.spec span-requires span-back-requires returns)
+ampersands-spec = tie.close
+    (tie.spec
+    (λ c κs. search needs) (λ c κs. search needs) returns)

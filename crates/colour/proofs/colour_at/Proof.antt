@@ -3,21 +3,6 @@ use borrow.Author.Needs.{needs}
 use Rattle.colour.proofs.colour_at.Statement.{statement}
 use Rattle.colour.proofs.colour_at.Tie as tie
 
-digits-of-requires : tie.Need-digits-of-requires
-digits-of-requires c κs = search needs
-
-span-back-requires : tie.Need-span-back-requires
-span-back-requires c κs = search needs
-
-trimmed-requires : tie.Need-trimmed-requires
-trimmed-requires c κs = search needs
-
-hex-at-requires : tie.Need-hex-at-requires
-hex-at-requires c κs = search needs
-
-rgb-of-requires : tie.Need-rgb-of-requires
-rgb-of-requires c κs = search needs
-
 returns : tie.Need-returns
 unfolding colourAt
 returns c =
@@ -30,9 +15,4 @@ pub colour-at-spec : {M : Type 1} → statement M
 colour-at-spec =
     tie.close
     (tie.spec
-    digits-of-requires
-    span-back-requires
-    trimmed-requires
-    hex-at-requires
-    rgb-of-requires
-    returns)
+    (λ c κs. search needs) (λ c κs. search needs) (λ c κs. search needs) (λ c κs. search needs) (λ c κs. search needs) returns)

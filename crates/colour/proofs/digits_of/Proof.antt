@@ -4,18 +4,6 @@ use borrow.Author.Needs.{needs}
 use Rattle.colour.proofs.digits_of.Statement.{statement}
 use Rattle.colour.proofs.digits_of.Tie as tie
 
-trimmed-requires : tie.Need-trimmed-requires
-trimmed-requires c κs = search needs
-
-ampersands-requires : tie.Need-ampersands-requires
-ampersands-requires c κs = search needs
-
-span-requires : tie.Need-span-requires
-span-requires c κs = search needs
-
-past-zero-x-requires : tie.Need-past-zero-x-requires
-past-zero-x-requires c κs = search needs
-
 returns : tie.Need-returns
 unfolding digits
 returns c =
@@ -28,4 +16,5 @@ returns c =
 pub digits-of-spec : {M : Type 1} → statement M
 digits-of-spec =
     tie.close
-    (tie.spec trimmed-requires ampersands-requires span-requires past-zero-x-requires returns)
+    (tie.spec
+    (λ c κs. search needs) (λ c κs. search needs) (λ c κs. search needs) (λ c κs. search needs) returns)

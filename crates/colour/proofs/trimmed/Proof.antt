@@ -3,12 +3,6 @@ use borrow.Author.Needs.{needs}
 use Rattle.colour.proofs.trimmed.Statement.{statement}
 use Rattle.colour.proofs.trimmed.Tie as tie
 
-trim-start-requires : tie.Need-trim-start-requires
-trim-start-requires c κs = search needs
-
-trim-end-requires : tie.Need-trim-end-requires
-trim-end-requires c κs = search needs
-
 returns : tie.Need-returns
 unfolding trimmed
 returns c =
@@ -17,4 +11,6 @@ returns c =
     record { is = rw (b .is, a .is); low = a .low; order = b .low; high = b .high }
 
 pub trimmed-spec : {M : Type 1} → statement M
-trimmed-spec = tie.close (tie.spec trim-start-requires trim-end-requires returns)
+trimmed-spec = tie.close
+    (tie.spec
+    (λ c κs. search needs) (λ c κs. search needs) returns)

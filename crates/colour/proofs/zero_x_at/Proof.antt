@@ -4,18 +4,6 @@ use borrow.Author.Needs.{needs}
 use Rattle.colour.proofs.zero_x_at.Statement.{statement}
 use Rattle.colour.proofs.zero_x_at.Tie as tie
 
-sub-if1 : tie.Need-sub-if1
-sub-if1 c = search needs
-
-shared-slice-read-if2 : tie.Need-shared-slice-read-if2
-shared-slice-read-if2 c = search needs
-
-add-if3 : tie.Need-add-if3
-add-if3 c = search needs
-
-shared-slice-read-if3 : tie.Need-shared-slice-read-if3
-shared-slice-read-if3 c = search needs
-
 returns : tie.Need-returns
 unfolding zeroXAt
 returns c =
@@ -40,11 +28,4 @@ pub zero-x-at-spec : {M : Type 1} → statement M
 zero-x-at-spec =
     tie.close
     (tie.spec
-    sub-if1
-    shared-slice-read-if2
-    add-if3
-    shared-slice-read-if3
-    returns
-    returns-2
-    returns-3
-    returns-4)
+    (λ c. search needs) (λ c. search needs) (λ c. search needs) (λ c. search needs) returns returns-2 returns-3 returns-4)

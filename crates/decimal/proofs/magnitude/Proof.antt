@@ -14,9 +14,6 @@ use Rattle.decimal.proofs.magnitude.Tie as tie
 one-at-least : (n : ℕ) → 0 < 10 ^ n
 one-at-least n = one-le-pow n 10 (lit< tt)
 
-ten-to-requires : tie.Need-ten-to-requires
-ten-to-requires c κs = search needs
-
 int-to-float-result : tie.Need-int-to-float-result
 unfolding inFloat
 int-to-float-result c = le→leb (c .before .before .before .before .args .digits) 16777216 (omega arith)
@@ -49,10 +46,4 @@ pub magnitude-spec : {M : Type 1} → statement M
 magnitude-spec =
     tie.close
     (tie.spec
-    ten-to-requires
-    int-to-float-result
-    int-to-float-result-2
-    returns
-    returns-2
-    ratio-requires
-    returns-3)
+    (λ c κs. search needs) int-to-float-result int-to-float-result-2 returns returns-2 ratio-requires returns-3)

@@ -10,41 +10,17 @@ use Rattle.drawing.proofs.scale_of.Reads as scale-of-reads
 use Rattle.scan.proofs.least.Reads as least-reads
 use Rattle.tokens.proofs.straight.Reads as straight-reads
 
-scale-of-requires : tie.Need-scale-of-requires
-scale-of-requires c κs = search needs
-
-least-requires : tie.Need-least-requires
-least-requires c κs = search needs
-
 straight-requires : tie.Need-straight-requires
 straight-requires c κs = (good-short _ (c .before .before .before .before .pre .0), search needs)
 
 draw-requires : tie.Need-draw-requires
 draw-requires c κs = good-short _ (c .before .before .before .before .before .before .before .pre .0)
 
-same-length : tie.Need-same-length
-same-length c = search needs
-
 returns : tie.Need-returns
 returns c = straight-drawn _ _ _ (c .before .before .before .before .before .before .before .before .before .before .pre .0) (c .before .before .before .before .before .before .before .before .before .before .pre .1) (c .before .before .before .before .before .before .before .scale-of .ensures) (c .before .before .before .before .before .before .least .ensures) (c .before .before .before .before .before .straight .ensures (c .before .before .before .before .if1 .taken)) (c .before .before .draw .ensures)
 
-slice-relend-prefix-draw : tie.Need-slice-relend-prefix-draw
-slice-relend-prefix-draw c = search needs
-
-slice-aggregate-draw : tie.Need-slice-aggregate-draw
-slice-aggregate-draw c = search needs
-
 draw-requires-2 : tie.Need-draw-requires-2
 draw-requires-2 c κs = good-short _ (c .before .before .before .before .before .before .before .pre .0)
-
-enum-known-ground : tie.Need-enum-known-ground
-enum-known-ground c = search needs
-
-enum-told : tie.Need-enum-told
-enum-told c = search needs
-
-same-length-2 : tie.Need-same-length-2
-same-length-2 c = search needs
 
 returns-2 : tie.Need-returns-2
 returns-2 c = dry-full _ _ _ (c .before .before .before .before .before .before .before .before .before .before .before .before .before .before .pre .0) (c .before .before .before .before .before .before .before .before .before .before .before .before .before .before .pre .1) (c .before .before .before .before .before .before .before .before .before .before .before .scale-of .ensures) (c .before .before .before .before .before .before .before .before .before .before .least .ensures) (c .before .before .before .before .before .before .draw2 .ensures) (c .before .before .enum-told .given .1) (c .if2 .taken)
@@ -52,14 +28,8 @@ returns-2 c = dry-full _ _ _ (c .before .before .before .before .before .before 
 draw-requires-3 : tie.Need-draw-requires-3
 draw-requires-3 c κs = good-short _ (c .before .before .before .before .before .before .before .before .before .before .before .before .before .before .before .pre .0)
 
-same-length-3 : tie.Need-same-length-3
-same-length-3 c = search needs
-
 returns-3 : tie.Need-returns-3
 returns-3 c = dry-refused _ _ _ (c .before .before .before .before .before .before .before .before .before .before .before .before .before .pre .0) (c .before .before .before .before .before .before .before .before .before .before .before .before .before .pre .1) (c .before .before .before .before .before .before .before .before .before .before .scale-of .ensures) (c .before .before .before .before .before .before .before .before .before .least .ensures) (c .before .before .before .before .before .draw2 .ensures) (c .before .ground .given .1)
-
-same-length-4 : tie.Need-same-length-4
-same-length-4 c = search needs
 
 returns-4 : tie.Need-returns-4
 returns-4 c = dry-drawn _ _ _ (c .before .before .before .before .before .before .before .before .before .before .before .before .before .before .before .before .before .before .pre .0) (c .before .before .before .before .before .before .before .before .before .before .before .before .before .before .before .before .before .before .pre .1) (c .before .before .before .before .before .before .before .before .before .before .before .before .before .before .before .scale-of .ensures) (c .before .before .before .before .before .before .before .before .before .before .before .before .before .before .least .ensures) (c .before .before .before .before .before .before .before .before .before .before .draw2 .ensures) (c .before .before .before .before .before .before .enum-told .given .1) (c .before .before .before .before .if2 .left) (c .before .before .draw3 .ensures)
@@ -68,21 +38,4 @@ pub draw-good-spec : {M : Type 1} → statement M
 draw-good-spec =
     tie.close
     (tie.spec
-    scale-of-requires
-    least-requires
-    straight-requires
-    draw-requires
-    same-length
-    returns
-    slice-relend-prefix-draw
-    slice-aggregate-draw
-    draw-requires-2
-    enum-known-ground
-    enum-told
-    same-length-2
-    returns-2
-    draw-requires-3
-    same-length-3
-    returns-3
-    same-length-4
-    returns-4)
+    (λ c κs. search needs) (λ c κs. search needs) straight-requires draw-requires (λ c. search needs) returns (λ c. search needs) (λ c. search needs) draw-requires-2 (λ c. search needs) (λ c. search needs) (λ c. search needs) returns-2 draw-requires-3 (λ c. search needs) returns-3 (λ c. search needs) returns-4)

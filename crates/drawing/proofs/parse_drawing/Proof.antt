@@ -9,18 +9,6 @@ use Rattle.drawing.proofs.draw_good.Reads as draw-good-reads
 use Rattle.drawing.proofs.too_large.Reads as too-large-reads
 use Rattle.refusal.proofs.check_text.Reads as check-text-reads
 
-check-text-requires : tie.Need-check-text-requires
-check-text-requires c κs = search needs
-
-enum-known-checked : tie.Need-enum-known-checked
-enum-known-checked c = search needs
-
-enum-told : tie.Need-enum-told
-enum-told c = search needs
-
-too-large-requires : tie.Need-too-large-requires
-too-large-requires c κs = search needs
-
 returns : tie.Need-returns
 returns c = answered-large _ _ _ (sym (c .before .before .before .before .check-text .ensures) ∙ c .before .before .enum-told .given .1) (c .before .if1 .taken) (c .too-large .ensures)
 
@@ -30,22 +18,8 @@ draw-good-requires c κs = (sym (c .before .before .before .before .check-text .
 returns-2 : tie.Need-returns-2
 returns-2 c = answered-text _ _ _ (sym (c .before .before .before .check-text .ensures) ∙ c .before .checked .given .1)
 
-same-length : tie.Need-same-length
-same-length c = search needs
-
-returns-3 : tie.Need-returns-3
-returns-3 c = search needs
-
 pub parse-drawing-spec : {M : Type 1} → statement M
 parse-drawing-spec =
     tie.close
     (tie.spec
-    check-text-requires
-    enum-known-checked
-    enum-told
-    too-large-requires
-    returns
-    draw-good-requires
-    returns-2
-    same-length
-    returns-3)
+    (λ c κs. search needs) (λ c. search needs) (λ c. search needs) (λ c κs. search needs) returns draw-good-requires returns-2 (λ c. search needs) (λ c. search needs))

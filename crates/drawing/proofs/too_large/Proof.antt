@@ -3,15 +3,6 @@ use borrow.Author.Needs.{needs}
 use Rattle.drawing.proofs.too_large.Statement.{statement}
 use Rattle.drawing.proofs.too_large.Tie as tie
 
-check-tokens-requires : tie.Need-check-tokens-requires
-check-tokens-requires c κs = search needs
-
-enum-known-third : tie.Need-enum-known-third
-enum-known-third c = search needs
-
-enum-told : tie.Need-enum-told
-enum-told c = search needs
-
 returns : tie.Need-returns
 returns c = rw (sym (c .before .before .before .check-tokens .ensures) ∙ c .before .third .given .1)
 
@@ -20,4 +11,6 @@ returns-2 c = rw (sym (c .before .before .check-tokens .ensures) ∙ c .enum-tol
 
 pub too-large-spec : {M : Type 1} → statement M
 too-large-spec =
-    tie.close (tie.spec check-tokens-requires enum-known-third enum-told returns returns-2)
+    tie.close
+    (tie.spec
+    (λ c κs. search needs) (λ c. search needs) (λ c. search needs) returns returns-2)

@@ -12,8 +12,7 @@ returns : tie.Need-returns
 unfolding ofBits div
 returns c = sym (nan-word (c .before .args .w) (c .if1 .taken))
 
-returns-2 : tie.Need-returns-2
-returns-2 c = search needs
-
 pub f32-of-word-spec : {M : Type 1} → statement M
-f32-of-word-spec = tie.close (tie.spec float-from-bits-result returns returns-2)
+f32-of-word-spec = tie.close
+    (tie.spec
+    float-from-bits-result returns (λ c. search needs))

@@ -14,9 +14,6 @@ low c = low-scaled 1 31 1 4294967296 refl (c .before .args .x) (c .before .pre) 
 scaled-requires : tie.Need-scaled-requires
 scaled-requires c κs = (low c .0, lit≤ tt, low c .1)
 
-cast-result : tie.Need-cast-result
-cast-result c = search needs
-
 returns : tie.Need-returns
 returns c = (c .scaled .ensures ∙ sym (low (c .before) .2), le-of-lt (c .scaled .ok))
 
@@ -25,4 +22,6 @@ unfolding ofBits
 returns-2 c = (high-scaled 1 31 1 4294967296 refl (c .before .args .x) (c .before .pre) (c .if1 .left), lit≤ tt)
 
 pub halves-spec : {M : Type 1} → statement M
-halves-spec = tie.close (tie.spec scaled-requires cast-result returns returns-2)
+halves-spec = tie.close
+    (tie.spec
+    scaled-requires (λ c. search needs) returns returns-2)

@@ -6,9 +6,6 @@ use Rattle.float.specs.Float.{billion, inReach}
 use Rattle.float.proofs.in_reach.Statement.{statement}
 use Rattle.float.proofs.in_reach.Tie as tie
 
-f32-of-word-requires : tie.Need-f32-of-word-requires
-f32-of-word-requires c κs = search needs
-
 returns : tie.Need-returns
 unfolding inReach ofBits neg
 returns c = let x = c .before .f32-of-word .result in sym (ap (λ (t : Bool). t && le x billion) (c .if1 .taken)) ∙ ap inReach (c .before .f32-of-word .ensures)
@@ -18,4 +15,6 @@ unfolding inReach ofBits neg
 returns-2 c = let x = c .before .f32-of-word .result in sym (ap (λ (t : Bool). t && le x billion) (c .if1 .left)) ∙ ap inReach (c .before .f32-of-word .ensures)
 
 pub in-reach-spec : {M : Type 1} → statement M
-in-reach-spec = tie.close (tie.spec f32-of-word-requires returns returns-2)
+in-reach-spec = tie.close
+    (tie.spec
+    (λ c κs. search needs) returns returns-2)

@@ -5,11 +5,10 @@ use borrow.Author.Needs.{needs}
 use Rattle.float.proofs.nearest_i32.Statement.{statement}
 use Rattle.float.proofs.nearest_i32.Tie as tie
 
-nearest-i32-to-f32-requires : tie.Need-nearest-i32-to-f32-requires
-nearest-i32-to-f32-requires c κs = search needs
-
 returns : tie.Need-returns
 returns c = c .nearest-i32-to-f32 .ensures ∙ ap (ofInt binary32) (toZ-ofZ (c .before .fits .n))
 
 pub nearest-i32-spec : {M : Type 1} → statement M
-nearest-i32-spec = tie.close (tie.spec nearest-i32-to-f32-requires returns)
+nearest-i32-spec = tie.close
+    (tie.spec
+    (λ c κs. search needs) returns)

@@ -3,15 +3,6 @@ use Rattle.float.proofs.Words.{low-is, high-fits, high-is}
 use Rattle.float.proofs.of_word.Statement.{statement}
 use Rattle.float.proofs.of_word.Tie as tie
 
-cast-result : tie.Need-cast-result
-cast-result c = search needs
-
-sub-result : tie.Need-sub-result
-sub-result c = search needs
-
-cast-result-2 : tie.Need-cast-result-2
-cast-result-2 c = search needs
-
 sub-result-2 : tie.Need-sub-result-2
 sub-result-2 c = high-fits (c .before .args .n) (c .if1 .left) (c .before .fits .n .fits)
 
@@ -23,4 +14,6 @@ returns-2 c = high-is (c .before .args .n) (c .if1 .left) (c .before .fits .n .f
 
 pub of-word-spec : {M : Type 1} → statement M
 of-word-spec =
-    tie.close (tie.spec cast-result sub-result cast-result-2 sub-result-2 returns returns-2)
+    tie.close
+    (tie.spec
+    (λ c. search needs) (λ c. search needs) (λ c. search needs) sub-result-2 returns returns-2)

@@ -30,15 +30,6 @@ float-to-bits-b c = not-nan (c .args .x) (c .pre .0)
 add-e : tie.Need-add-e
 add-e c = record { fits = omega (arith, small c, c .pre .1) }
 
-add-m : tie.Need-add-m
-add-m c = search needs
-
-shr-result : tie.Need-shr-result
-shr-result c = search needs
-
-sub-result : tie.Need-sub-result
-sub-result c = search needs
-
 shl-result : tie.Need-shl-result
 shl-result c = omega (arith, room (c .before .before) (c .if2 .left))
 
@@ -75,12 +66,4 @@ pub scaled-spec : {M : Type 1} → statement M
 scaled-spec =
     tie.close
     (tie.spec
-    float-to-bits-b
-    add-e
-    add-m
-    shr-result
-    sub-result
-    shl-result
-    returns
-    returns-2
-    returns-3)
+    float-to-bits-b add-e (λ c. search needs) (λ c. search needs) (λ c. search needs) shl-result returns returns-2 returns-3)

@@ -5,24 +5,6 @@ use borrow.Author.Needs.{needs}
 use Rattle.hannuvel.proofs.packed_clip.Statement.{statement}
 use Rattle.hannuvel.proofs.packed_clip.Tie as tie
 
-enum-known-checked : tie.Need-enum-known-checked
-enum-known-checked c = search needs
-
-packed-refusal-requires : tie.Need-packed-refusal-requires
-packed-refusal-requires c κs = search needs
-
-enum-told : tie.Need-enum-told
-enum-told c = search needs
-
-mul-result : tie.Need-mul-result
-mul-result c = search needs
-
-cast-result : tie.Need-cast-result
-cast-result c = search needs
-
-add-result : tie.Need-add-result
-add-result c = search needs
-
 returns : tie.Need-returns
 returns c = rw (c .before .before .checked .given .1) (c .packed-refusal .ensures)
 
@@ -36,11 +18,4 @@ pub packed-clip-spec : {M : Type 1} → statement M
 packed-clip-spec =
     tie.close
     (tie.spec
-    enum-known-checked
-    packed-refusal-requires
-    enum-told
-    mul-result
-    cast-result
-    add-result
-    returns
-    returns-2)
+    (λ c. search needs) (λ c κs. search needs) (λ c. search needs) (λ c. search needs) (λ c. search needs) (λ c. search needs) returns returns-2)

@@ -34,20 +34,11 @@ cast-now c = as-word (c .before .fits .t) (late (c .before) (c .if1 .left))
 returns-2 : tie.Need-returns-2
 returns-2 c = to-instant (c .before .before) (c .before .if1 .left) (up-to-start _ _ _ (c .if2 .taken))
 
-either-requires : tie.Need-either-requires
-either-requires c κs = search needs
-
 returns-3 : tie.Need-returns-3
 returns-3 c = to-instant (c .before .before .before .before) (c .before .before .before .if1 .left) (from-end _ _ _ (c .before .before .if2 .left) (c .before .either .ensures) (c .if3 .taken))
 
-sub-quotient : tie.Need-sub-quotient
-sub-quotient c = search needs
-
 sub-quotient-2 : tie.Need-sub-quotient-2
 sub-quotient-2 c = le-of-lt (longer _ _ _ (c .before .before .if2 .left) (c .before .either .ensures) (c .if3 .left))
-
-quotient-requires : tie.Need-quotient-requires
-quotient-requires c κs = search needs
 
 returns-4 : tie.Need-returns-4
 returns-4 c = to-instant (c .before .before .before .before .before) (c .before .before .before .before .if1 .left) (c .quotient .ensures ∙ within _ _ _ (c .before .before .before .if2 .left) (c .before .before .either .ensures) (c .before .if3 .left))
@@ -56,12 +47,4 @@ pub progress-in-spec : {M : Type 1} → statement M
 progress-in-spec =
     tie.close
     (tie.spec
-    returns
-    cast-now
-    returns-2
-    either-requires
-    returns-3
-    sub-quotient
-    sub-quotient-2
-    quotient-requires
-    returns-4)
+    returns cast-now returns-2 (λ c κs. search needs) returns-3 (λ c. search needs) sub-quotient-2 (λ c κs. search needs) returns-4)

@@ -6,15 +6,11 @@ use Rattle.leaves.proofs.hannuvel_leaf_colour.Tie as tie
 returns : tie.Need-returns
 returns c = rw (lt-leb _ _ (c .if1 .taken))
 
-colour-at-requires : tie.Need-colour-at-requires
-colour-at-requires c κs = search needs
-
-packed-colour-requires : tie.Need-packed-colour-requires
-packed-colour-requires c κs = search needs
-
 returns-2 : tie.Need-returns-2
 returns-2 c = rw (le-leb _ _ (c .before .before .if1 .left), ← c .before .colour-at .ensures) (c .packed-colour .ensures)
 
 pub hannuvel-leaf-colour-spec : {M : Type 1} → statement M
 hannuvel-leaf-colour-spec =
-    tie.close (tie.spec returns colour-at-requires packed-colour-requires returns-2)
+    tie.close
+    (tie.spec
+    returns (λ c κs. search needs) (λ c κs. search needs) returns-2)

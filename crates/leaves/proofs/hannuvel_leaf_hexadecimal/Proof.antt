@@ -6,15 +6,11 @@ use Rattle.leaves.proofs.hannuvel_leaf_hexadecimal.Tie as tie
 returns : tie.Need-returns
 returns c = rw (lt-leb _ _ (c .if1 .taken))
 
-hex-at-requires : tie.Need-hex-at-requires
-hex-at-requires c κs = search needs
-
-packed-requires : tie.Need-packed-requires
-packed-requires c κs = search needs
-
 returns-2 : tie.Need-returns-2
 returns-2 c = rw (le-leb _ _ (c .before .before .if1 .left), ← c .before .hex-at .ensures) (c .packed .ensures)
 
 pub hannuvel-leaf-hexadecimal-spec : {M : Type 1} → statement M
 hannuvel-leaf-hexadecimal-spec =
-    tie.close (tie.spec returns hex-at-requires packed-requires returns-2)
+    tie.close
+    (tie.spec
+    returns (λ c κs. search needs) (λ c κs. search needs) returns-2)

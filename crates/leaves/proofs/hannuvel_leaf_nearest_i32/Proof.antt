@@ -7,15 +7,6 @@ use borrow.Author.Needs.{needs}
 use Rattle.leaves.proofs.hannuvel_leaf_nearest_i32.Statement.{statement}
 use Rattle.leaves.proofs.hannuvel_leaf_nearest_i32.Tie as tie
 
-of-word-requires : tie.Need-of-word-requires
-of-word-requires c κs = search needs
-
-nearest-i32-requires : tie.Need-nearest-i32-requires
-nearest-i32-requires c κs = search needs
-
-word-of-f32-requires : tie.Need-word-of-f32-requires
-word-of-f32-requires c κs = search needs
-
 returns : tie.Need-returns
 returns c =
     let o = c .before .before .of-word in
@@ -23,4 +14,6 @@ returns c =
 
 pub hannuvel-leaf-nearest-i32-spec : {M : Type 1} → statement M
 hannuvel-leaf-nearest-i32-spec =
-    tie.close (tie.spec of-word-requires nearest-i32-requires word-of-f32-requires returns)
+    tie.close
+    (tie.spec
+    (λ c κs. search needs) (λ c κs. search needs) (λ c κs. search needs) returns)

@@ -5,18 +5,6 @@ use borrow.Author.Needs.{needs}
 use Rattle.leaves.proofs.hannuvel_leaf_round.Statement.{statement}
 use Rattle.leaves.proofs.hannuvel_leaf_round.Tie as tie
 
-in-reach-requires : tie.Need-in-reach-requires
-in-reach-requires c κs = search needs
-
-f32-of-word-requires : tie.Need-f32-of-word-requires
-f32-of-word-requires c κs = search needs
-
-round-away-requires : tie.Need-round-away-requires
-round-away-requires c κs = search needs
-
-to-word-requires : tie.Need-to-word-requires
-to-word-requires c κs = search needs
-
 returns : tie.Need-returns
 returns c =
     let z = c .before .round-away in
@@ -29,9 +17,4 @@ pub hannuvel-leaf-round-spec : {M : Type 1} → statement M
 hannuvel-leaf-round-spec =
     tie.close
     (tie.spec
-    in-reach-requires
-    f32-of-word-requires
-    round-away-requires
-    to-word-requires
-    returns
-    returns-2)
+    (λ c κs. search needs) (λ c κs. search needs) (λ c κs. search needs) (λ c κs. search needs) returns returns-2)

@@ -8,21 +8,6 @@ returns c =
     let a = c .before .before .before .args in
     listed-long (a .whole) (a .text .now) (a .out .now) (c .if1 .taken)
 
-numbers-at-requires : tie.Need-numbers-at-requires
-numbers-at-requires c κs = search needs
-
-packed-place-requires : tie.Need-packed-place-requires
-packed-place-requires c κs = search needs
-
-lay-requires : tie.Need-lay-requires
-lay-requires c κs = search needs
-
-packed-list-requires : tie.Need-packed-list-requires
-packed-list-requires c κs = search needs
-
-same-length : tie.Need-same-length
-same-length c = search needs
-
 returns-2 : tie.Need-returns-2
 returns-2 c =
     let l = c .before .before .before in
@@ -30,9 +15,6 @@ returns-2 c =
     let n = p .before .before .before in
     let a = n .before .before .before .before .args in
     listed-laid (a .whole) (a .text .now) (a .out .now) (n .numbers-at .result) (c .packed-list .result) (n .before .if1 .left) (n .numbers-at .ensures) (c .packed-list .ensures) (p .packed-place .result) (l .lay .last .1 .1 .0) (p .before .if2 .taken) (p .packed-place .ensures) (l .lay .ensures)
-
-packed-list-requires-2 : tie.Need-packed-list-requires-2
-packed-list-requires-2 c κs = search needs
 
 returns-3 : tie.Need-returns-3
 returns-3 c =
@@ -44,12 +26,4 @@ pub list-spec : {M : Type 1} → statement M
 list-spec =
     tie.close
     (tie.spec
-    returns
-    numbers-at-requires
-    packed-place-requires
-    lay-requires
-    packed-list-requires
-    same-length
-    returns-2
-    packed-list-requires-2
-    returns-3)
+    returns (λ c κs. search needs) (λ c κs. search needs) (λ c κs. search needs) (λ c κs. search needs) (λ c. search needs) returns-2 (λ c κs. search needs) returns-3)

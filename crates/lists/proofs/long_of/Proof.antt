@@ -2,23 +2,10 @@ use borrow.Author.Needs.{needs}
 use Rattle.lists.proofs.long_of.Statement.{statement}
 use Rattle.lists.proofs.long_of.Tie as tie
 
-enum-told : tie.Need-enum-told
-enum-told c = search needs
-
-enum-known-n : tie.Need-enum-known-n
-enum-known-n c = search needs
-
-enum-told-2 : tie.Need-enum-told-2
-enum-told-2 c = search needs
-
-returns : tie.Need-returns
-returns c = search needs
-
 returns-2 : tie.Need-returns-2
 returns-2 c = rw (c .before .n .given .1)
 
-returns-3 : tie.Need-returns-3
-returns-3 c = search needs
-
 pub long-of-spec : {M : Type 1} → statement M
-long-of-spec = tie.close (tie.spec enum-told enum-known-n enum-told-2 returns returns-2 returns-3)
+long-of-spec = tie.close
+    (tie.spec
+    (λ c. search needs) (λ c. search needs) (λ c. search needs) (λ c. search needs) returns-2 (λ c. search needs))

@@ -13,39 +13,6 @@ use Rattle.marks.proofs.After.{rise-capped, from-zero-most, fad-early, 
 use Rattle.marks.proofs.after_fad.Statement.{statement}
 use Rattle.marks.proofs.after_fad.Tie as tie
 
-from-zero-requires : tie.Need-from-zero-requires
-from-zero-requires c κs = search needs
-
-capped-requires : tie.Need-capped-requires
-capped-requires c κs = search needs
-
-after-ramp-requires : tie.Need-after-ramp-requires
-after-ramp-requires c κs = search needs
-
-less-requires : tie.Need-less-requires
-less-requires c κs = search needs
-
-capped-requires-2 : tie.Need-capped-requires-2
-capped-requires-2 c κs = search needs
-
-capped-requires-3 : tie.Need-capped-requires-3
-capped-requires-3 c κs = search needs
-
-after-ramp-requires-2 : tie.Need-after-ramp-requires-2
-after-ramp-requires-2 c κs = search needs
-
-after-early-requires : tie.Need-after-early-requires
-after-early-requires c κs = search needs
-
-least-requires : tie.Need-least-requires
-least-requires c κs = search needs
-
-least-requires-2 : tie.Need-least-requires-2
-least-requires-2 c κs = search needs
-
-least-requires-3 : tie.Need-least-requires-3
-least-requires-3 c κs = search needs
-
 module _ (c : tie.After-after-ramp2) where
   abbrev s : tie.Start
   s = c .before .before .before .before .before .before .before
@@ -103,16 +70,4 @@ pub after-fad-spec : {M : Type 1} → statement M
 after-fad-spec =
     tie.close
     (tie.spec
-    from-zero-requires
-    capped-requires
-    after-ramp-requires
-    less-requires
-    capped-requires-2
-    capped-requires-3
-    after-ramp-requires-2
-    after-early-requires
-    least-requires
-    least-requires-2
-    least-requires-3
-    returns
-    returns-2)
+    (λ c κs. search needs) (λ c κs. search needs) (λ c κs. search needs) (λ c κs. search needs) (λ c κs. search needs) (λ c κs. search needs) (λ c κs. search needs) (λ c κs. search needs) (λ c κs. search needs) (λ c κs. search needs) (λ c κs. search needs) returns returns-2)

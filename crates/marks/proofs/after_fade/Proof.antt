@@ -6,27 +6,6 @@ use Rattle.marks.specs.Inner.{stretch}
 use Rattle.marks.proofs.after_fade.Statement.{statement}
 use Rattle.marks.proofs.after_fade.Tie as tie
 
-of-word-requires : tie.Need-of-word-requires
-of-word-requires c κs = search needs
-
-of-word-requires-2 : tie.Need-of-word-requires-2
-of-word-requires-2 c κs = search needs
-
-of-word-requires-3 : tie.Need-of-word-requires-3
-of-word-requires-3 c κs = search needs
-
-after-stretch-requires : tie.Need-after-stretch-requires
-after-stretch-requires c κs = search needs
-
-of-word-requires-4 : tie.Need-of-word-requires-4
-of-word-requires-4 c κs = search needs
-
-after-stretch-requires-2 : tie.Need-after-stretch-requires-2
-after-stretch-requires-2 c κs = search needs
-
-least-requires : tie.Need-least-requires
-least-requires c κs = search needs
-
 returns : tie.Need-returns
 returns c =
     let w1 = c .before .before .before .before .before .before .of-word in
@@ -46,11 +25,4 @@ pub after-fade-spec : {M : Type 1} → statement M
 after-fade-spec =
     tie.close
     (tie.spec
-    of-word-requires
-    of-word-requires-2
-    of-word-requires-3
-    after-stretch-requires
-    of-word-requires-4
-    after-stretch-requires-2
-    least-requires
-    returns)
+    (λ c κs. search needs) (λ c κs. search needs) (λ c κs. search needs) (λ c κs. search needs) (λ c κs. search needs) (λ c κs. search needs) (λ c κs. search needs) returns)

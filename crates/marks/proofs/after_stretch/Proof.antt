@@ -9,9 +9,6 @@ use Rattle.marks.proofs.After.{lt-read, stretch-ramp, stretch-ahead, st
 use Rattle.marks.proofs.after_stretch.Statement.{statement}
 use Rattle.marks.proofs.after_stretch.Tie as tie
 
-after-ramp-requires : tie.Need-after-ramp-requires
-after-ramp-requires c κs = search needs
-
 flat : (c : tie.Else1) → ltZ (c .before .args .a) (c .before .args .b) ≡ false
 flat c = lt-read (c .before .fits .a) (c .before .fits .b) (c .if1 .left)
 
@@ -33,4 +30,6 @@ returns-3 c =
     stretch-past (s .args .t) (s .args .a) (s .args .b) (s .args .one) (flat (c .before)) (lt-read (s .fits .t) (s .fits .one) (c .if2 .left))
 
 pub after-stretch-spec : {M : Type 1} → statement M
-after-stretch-spec = tie.close (tie.spec after-ramp-requires returns returns-2 returns-3)
+after-stretch-spec = tie.close
+    (tie.spec
+    (λ c κs. search needs) returns returns-2 returns-3)

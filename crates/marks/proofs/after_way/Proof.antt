@@ -8,18 +8,6 @@ use Rattle.marks.proofs.After.{way-absent, way-given}
 use Rattle.marks.proofs.after_way.Statement.{statement}
 use Rattle.marks.proofs.after_way.Tie as tie
 
-after-stretch-requires : tie.Need-after-stretch-requires
-after-stretch-requires c κs = search needs
-
-of-word-requires : tie.Need-of-word-requires
-of-word-requires c κs = search needs
-
-of-word-requires-2 : tie.Need-of-word-requires-2
-of-word-requires-2 c κs = search needs
-
-after-stretch-requires-2 : tie.Need-after-stretch-requires-2
-after-stretch-requires-2 c κs = search needs
-
 returns : tie.Need-returns
 returns c =
     let s = c .before .before in
@@ -40,9 +28,4 @@ pub after-way-spec : {M : Type 1} → statement M
 after-way-spec =
     tie.close
     (tie.spec
-    after-stretch-requires
-    of-word-requires
-    of-word-requires-2
-    after-stretch-requires-2
-    returns
-    returns-2)
+    (λ c κs. search needs) (λ c κs. search needs) (λ c κs. search needs) (λ c κs. search needs) returns returns-2)

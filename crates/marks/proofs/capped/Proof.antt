@@ -9,9 +9,6 @@ use Rattle.marks.specs.Inner.{most}
 use Rattle.marks.proofs.capped.Statement.{statement}
 use Rattle.marks.proofs.capped.Tie as tie
 
-cast-result : tie.Need-cast-result
-cast-result c = search needs
-
 returns : tie.Need-returns
 returns c = let e : c .before .args .n ≡ min (c .before .args .n) most = omega arith in toZ-pos w32 (omega arith) ∙ ap pos e
 
@@ -19,4 +16,6 @@ returns-2 : tie.Need-returns-2
 returns-2 c = let e : 2147483647 ≡ min (c .before .args .n) most = omega arith in ap pos e
 
 pub capped-spec : {M : Type 1} → statement M
-capped-spec = tie.close (tie.spec cast-result returns returns-2)
+capped-spec = tie.close
+    (tie.spec
+    (λ c. search needs) returns returns-2)

@@ -3,9 +3,6 @@ use borrow.Author.Needs.{needs}
 use Rattle.mix.proofs.accel_of.Statement.{statement}
 use Rattle.mix.proofs.accel_of.Tie as tie
 
-finite-requires : tie.Need-finite-requires
-finite-requires c κs = search needs
-
 returns : tie.Need-returns
 returns c = rw (← c .before .finite .ensures, c .if1 .taken)
 
@@ -14,4 +11,6 @@ unfolding ofBits
 returns-2 c = rw (← c .before .finite .ensures, c .if1 .left)
 
 pub accel-of-spec : {M : Type 1} → statement M
-accel-of-spec = tie.close (tie.spec finite-requires returns returns-2)
+accel-of-spec = tie.close
+    (tie.spec
+    (λ c κs. search needs) returns returns-2)

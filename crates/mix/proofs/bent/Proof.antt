@@ -3,12 +3,6 @@ use Rattle.state.specs.Mix.{bent}
 use Rattle.mix.proofs.bent.Statement.{statement}
 use Rattle.mix.proofs.bent.Tie as tie
 
-near-zero-requires : tie.Need-near-zero-requires
-near-zero-requires c κs = search needs
-
-power-of-requires : tie.Need-power-of-requires
-power-of-requires c κs = search needs
-
 returns : tie.Need-returns
 unfolding bent
 returns c = rw (← c .before .near-zero .ensures, c .if1 .taken)
@@ -18,4 +12,6 @@ unfolding bent
 returns-2 c = rw (← c .before .before .near-zero .ensures, c .before .if1 .left, c .power-of .ensures)
 
 pub bent-spec : {M : Type 1} → statement M
-bent-spec = tie.close (tie.spec near-zero-requires power-of-requires returns returns-2)
+bent-spec = tie.close
+    (tie.spec
+    (λ c κs. search needs) (λ c κs. search needs) returns returns-2)

@@ -7,21 +7,6 @@ use Rattle.mix.proofs.Law.{factor-is}
 use Rattle.mix.proofs.factor.Statement.{statement}
 use Rattle.mix.proofs.factor.Tie as tie
 
-progress-requires : tie.Need-progress-requires
-progress-requires c κs = search needs
-
-f32-of-word-requires : tie.Need-f32-of-word-requires
-f32-of-word-requires c κs = search needs
-
-accel-of-requires : tie.Need-accel-of-requires
-accel-of-requires c κs = search needs
-
-bent-requires : tie.Need-bent-requires
-bent-requires c κs = search needs
-
-held-requires : tie.Need-held-requires
-held-requires c κs = search needs
-
 returns : tie.Need-returns
 returns c =
     let s = c .before .before .before .before .before in
@@ -33,9 +18,4 @@ pub factor-spec : {M : Type 1} → statement M
 factor-spec =
     tie.close
     (tie.spec
-    progress-requires
-    f32-of-word-requires
-    accel-of-requires
-    bent-requires
-    held-requires
-    returns)
+    (λ c κs. search needs) (λ c κs. search needs) (λ c κs. search needs) (λ c κs. search needs) (λ c κs. search needs) returns)

@@ -4,12 +4,6 @@ use Rattle.state.specs.Mix.{held}
 use Rattle.mix.proofs.held.Statement.{statement}
 use Rattle.mix.proofs.held.Tie as tie
 
-finite-requires : tie.Need-finite-requires
-finite-requires c κs = search needs
-
-clamp-requires : tie.Need-clamp-requires
-clamp-requires c κs = search needs
-
 returns : tie.Need-returns
 unfolding held ofBits
 returns c = rw (← c .before .before .finite .ensures, c .before .if1 .taken, c .clamp .ensures)
@@ -19,4 +13,6 @@ unfolding held
 returns-2 c = rw (← c .before .finite .ensures, c .if1 .left)
 
 pub held-spec : {M : Type 1} → statement M
-held-spec = tie.close (tie.spec finite-requires clamp-requires returns returns-2)
+held-spec = tie.close
+    (tie.spec
+    (λ c κs. search needs) (λ c κs. search needs) returns returns-2)

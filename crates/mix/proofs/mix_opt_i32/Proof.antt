@@ -4,33 +4,6 @@ use borrow.Author.Needs.{needs}
 use Rattle.mix.proofs.mix_opt_i32.Statement.{statement}
 use Rattle.mix.proofs.mix_opt_i32.Tie as tie
 
-enum-told : tie.Need-enum-told
-enum-told c = search needs
-
-same-i32-requires : tie.Need-same-i32-requires
-same-i32-requires c κs = search needs
-
-enum-known-b : tie.Need-enum-known-b
-enum-known-b c = search needs
-
-i32-or-requires : tie.Need-i32-or-requires
-i32-or-requires c κs = search needs
-
-nearest-i32-requires : tie.Need-nearest-i32-requires
-nearest-i32-requires c κs = search needs
-
-nearest-i32-requires-2 : tie.Need-nearest-i32-requires-2
-nearest-i32-requires-2 c κs = search needs
-
-lerp-f32-requires : tie.Need-lerp-f32-requires
-lerp-f32-requires c κs = search needs
-
-round-away-requires : tie.Need-round-away-requires
-round-away-requires c κs = search needs
-
-returns : tie.Need-returns
-returns c = search needs
-
 returns-2 : tie.Need-returns-2
 returns-2 c =
     let n = c .before .before .before .before in
@@ -41,13 +14,4 @@ pub mix-opt-i32-spec : {M : Type 1} → statement M
 mix-opt-i32-spec =
     tie.close
     (tie.spec
-    enum-told
-    same-i32-requires
-    enum-known-b
-    i32-or-requires
-    nearest-i32-requires
-    nearest-i32-requires-2
-    lerp-f32-requires
-    round-away-requires
-    returns
-    returns-2)
+    (λ c. search needs) (λ c κs. search needs) (λ c. search needs) (λ c κs. search needs) (λ c κs. search needs) (λ c κs. search needs) (λ c κs. search needs) (λ c κs. search needs) (λ c. search needs) returns-2)

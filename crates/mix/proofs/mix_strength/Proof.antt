@@ -3,9 +3,6 @@ use borrow.Author.Needs.{needs}
 use Rattle.mix.proofs.mix_strength.Statement.{statement}
 use Rattle.mix.proofs.mix_strength.Tie as tie
 
-round-between-requires : tie.Need-round-between-requires
-round-between-requires c κs = search needs
-
 returns : tie.Need-returns
 returns c = rw (eq-eqb _ _ (c .if1 .taken))
 
@@ -13,4 +10,6 @@ returns-2 : tie.Need-returns-2
 returns-2 c = rw (ne-eqb _ _ (c .before .if1 .left), c .round-between .ensures)
 
 pub mix-strength-spec : {M : Type 1} → statement M
-mix-strength-spec = tie.close (tie.spec round-between-requires returns returns-2)
+mix-strength-spec = tie.close
+    (tie.spec
+    (λ c κs. search needs) returns returns-2)

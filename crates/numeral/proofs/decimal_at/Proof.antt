@@ -4,18 +4,6 @@ use borrow.Author.Needs.{needs}
 use Rattle.numeral.proofs.decimal_at.Statement.{statement}
 use Rattle.numeral.proofs.decimal_at.Tie as tie
 
-past-requires : tie.Need-past-requires
-past-requires c κs = search needs
-
-run-at-requires : tie.Need-run-at-requires
-run-at-requires c κs = search needs
-
-past-requires-2 : tie.Need-past-requires-2
-past-requires-2 c κs = search needs
-
-run-at-requires-2 : tie.Need-run-at-requires-2
-run-at-requires-2 c κs = search needs
-
 returns : tie.Need-returns
 unfolding splitAt
 returns c =
@@ -27,4 +15,6 @@ returns c =
 
 pub decimal-at-spec : {M : Type 1} → statement M
 decimal-at-spec =
-    tie.close (tie.spec past-requires run-at-requires past-requires-2 run-at-requires-2 returns)
+    tie.close
+    (tie.spec
+    (λ c κs. search needs) (λ c κs. search needs) (λ c κs. search needs) (λ c κs. search needs) returns)

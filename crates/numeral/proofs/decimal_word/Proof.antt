@@ -4,15 +4,6 @@ use borrow.Author.Needs.{needs}
 use Rattle.numeral.proofs.decimal_word.Statement.{statement}
 use Rattle.numeral.proofs.decimal_word.Tie as tie
 
-past-requires : tie.Need-past-requires
-past-requires c κs = search needs
-
-sub-decimal-word : tie.Need-sub-decimal-word
-sub-decimal-word c = search needs
-
-cast-decimal-word : tie.Need-cast-decimal-word
-cast-decimal-word c = search needs
-
 decimal-word-requires : tie.Need-decimal-word-requires
 decimal-word-requires c κs =
     let p = c .before .before .before .pre in
@@ -27,4 +18,5 @@ returns c =
 pub decimal-word-spec : {M : Type 1} → statement M
 decimal-word-spec =
     tie.close
-    (tie.spec past-requires sub-decimal-word cast-decimal-word decimal-word-requires returns)
+    (tie.spec
+    (λ c κs. search needs) (λ c. search needs) (λ c. search needs) decimal-word-requires returns)

@@ -4,15 +4,6 @@ use borrow.Author.Needs.{needs}
 use Rattle.numeral.proofs.exponent_at.Statement.{statement}
 use Rattle.numeral.proofs.exponent_at.Tie as tie
 
-past-requires : tie.Need-past-requires
-past-requires c κs = search needs
-
-past-requires-2 : tie.Need-past-requires-2
-past-requires-2 c κs = search needs
-
-span-requires : tie.Need-span-requires
-span-requires c κs = search needs
-
 returns : tie.Need-returns
 unfolding exponentAt
 returns c =
@@ -35,4 +26,6 @@ returns-3 c =
 
 pub exponent-at-spec : {M : Type 1} → statement M
 exponent-at-spec =
-    tie.close (tie.spec past-requires past-requires-2 span-requires returns returns-2 returns-3)
+    tie.close
+    (tie.spec
+    (λ c κs. search needs) (λ c κs. search needs) (λ c κs. search needs) returns returns-2 returns-3)

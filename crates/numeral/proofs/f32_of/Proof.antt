@@ -5,23 +5,8 @@ use borrow.Author.Needs.{needs}
 use Rattle.numeral.proofs.f32_of.Statement.{statement}
 use Rattle.numeral.proofs.f32_of.Tie as tie
 
-decimal-at-requires : tie.Need-decimal-at-requires
-decimal-at-requires c κs = search needs
-
-sub-if1 : tie.Need-sub-if1
-sub-if1 c = search needs
-
-sub-if1-2 : tie.Need-sub-if1-2
-sub-if1-2 c = search needs
-
-add-if1 : tie.Need-add-if1
-add-if1 c = search needs
-
 returns : tie.Need-returns
 returns c = ap wordOfF32 (f32-empty _ _ _ _ (c .before .before .before .before .decimal-at .ensures .0 .is) (c .if1 .taken))
-
-exponent-at-requires : tie.Need-exponent-at-requires
-exponent-at-requires c κs = search needs
 
 returns-2 : tie.Need-returns-2
 returns-2 c = ap wordOfF32 (f32-exponent _ _ _ _ (c .before .before .before .before .before .before .before .before .decimal-at .ensures .0 .is) (c .before .before .before .before .if1 .left) (c .before .before .if2 .taken) (sym (c .before .exponent-at .ensures) ∙ c .if3 .taken))
@@ -29,14 +14,8 @@ returns-2 c = ap wordOfF32 (f32-exponent _ _ _ _ (c .before .before .before .bef
 returns-3 : tie.Need-returns-3
 returns-3 c = ap wordOfF32 (f32-rest _ _ _ _ (c .before .before .before .before .before .before .before .before .decimal-at .ensures .0 .is) (c .before .before .before .before .if1 .left) (c .before .before .if2 .taken) (sym (c .before .exponent-at .ensures) ∙ c .if3 .left))
 
-sub-if4 : tie.Need-sub-if4
-sub-if4 c = search needs
-
 returns-4 : tie.Need-returns-4
 returns-4 c = ap wordOfF32 (f32-long _ _ _ _ (c .before .before .before .before .before .before .before .before .decimal-at .ensures .0 .is) (c .before .before .before .before .if1 .left) (c .before .before .if2 .left) (c .if4 .taken))
-
-sub-if5 : tie.Need-sub-if5
-sub-if5 c = search needs
 
 returns-5 : tie.Need-returns-5
 returns-5 c = ap wordOfF32 (f32-long-fraction _ _ _ _ (c .before .before .before .before .before .before .before .before .before .before .decimal-at .ensures .0 .is) (c .before .before .before .before .before .before .if1 .left) (c .before .before .before .before .if2 .left) (c .before .before .if4 .left) (c .if5 .taken))
@@ -57,17 +36,4 @@ pub f32-of-spec : {M : Type 1} → statement M
 f32-of-spec =
     tie.close
     (tie.spec
-    decimal-at-requires
-    sub-if1
-    sub-if1-2
-    add-if1
-    returns
-    exponent-at-requires
-    returns-2
-    returns-3
-    sub-if4
-    returns-4
-    sub-if5
-    returns-5
-    decimal-word-requires
-    returns-6)
+    (λ c κs. search needs) (λ c. search needs) (λ c. search needs) (λ c. search needs) returns (λ c κs. search needs) returns-2 returns-3 (λ c. search needs) returns-4 (λ c. search needs) returns-5 decimal-word-requires returns-6)

@@ -4,17 +4,10 @@ use borrow.Author.Needs.{needs}
 use Rattle.numeral.proofs.hex_at.Statement.{statement}
 use Rattle.numeral.proofs.hex_at.Tie as tie
 
-past-requires : tie.Need-past-requires
-past-requires c κs = search needs
-
-whole-number-requires : tie.Need-whole-number-requires
-whole-number-requires c κs = search needs
-
-up-to-requires : tie.Need-up-to-requires
-up-to-requires c κs = search needs
-
 returns : tie.Need-returns
 returns c = c .up-to .ensures ∙ hex-is _ _ _ _ _ (c .before .before .past .ensures .is) (c .before .whole-number .ensures)
 
 pub hex-at-spec : {M : Type 1} → statement M
-hex-at-spec = tie.close (tie.spec past-requires whole-number-requires up-to-requires returns)
+hex-at-spec = tie.close
+    (tie.spec
+    (λ c κs. search needs) (λ c κs. search needs) (λ c κs. search needs) returns)

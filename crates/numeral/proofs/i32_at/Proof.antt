@@ -3,24 +3,6 @@ use borrow.Author.Needs.{needs}
 use Rattle.numeral.proofs.i32_at.Statement.{statement}
 use Rattle.numeral.proofs.i32_at.Tie as tie
 
-trim-start-requires : tie.Need-trim-start-requires
-trim-start-requires c κs = search needs
-
-trim-end-requires : tie.Need-trim-end-requires
-trim-end-requires c κs = search needs
-
-past-requires : tie.Need-past-requires
-past-requires c κs = search needs
-
-whole-number-requires : tie.Need-whole-number-requires
-whole-number-requires c κs = search needs
-
-past-requires-2 : tie.Need-past-requires-2
-past-requires-2 c κs = search needs
-
-up-to-requires : tie.Need-up-to-requires
-up-to-requires c κs = search needs
-
 returns : tie.Need-returns
 returns c =
     let n = c .before .before in
@@ -32,12 +14,6 @@ returns-2 c =
     let n = c .before .before in
     rw (← n .before .before .before .before .trim-start .ensures .is, ← n .before .before .before .trim-end .ensures .is)
     (i32-zero _ _ _ _ _ _ (n .before .before .past .ensures .is) (n .past2 .ensures .is) (n .before .whole-number .ensures) (c .before .if1 .left) (c .if2 .taken))
-
-sub-t10 : tie.Need-sub-t10
-sub-t10 c = search needs
-
-cast-t11 : tie.Need-cast-t11
-cast-t11 c = search needs
 
 returns-3 : tie.Need-returns-3
 returns-3 c =
@@ -55,15 +31,4 @@ pub i32-at-spec : {M : Type 1} → statement M
 i32-at-spec =
     tie.close
     (tie.spec
-    trim-start-requires
-    trim-end-requires
-    past-requires
-    whole-number-requires
-    past-requires-2
-    up-to-requires
-    returns
-    returns-2
-    sub-t10
-    cast-t11
-    returns-3
-    returns-4)
+    (λ c κs. search needs) (λ c κs. search needs) (λ c κs. search needs) (λ c κs. search needs) (λ c κs. search needs) (λ c κs. search needs) returns returns-2 (λ c. search needs) (λ c. search needs) returns-3 returns-4)

@@ -3,9 +3,6 @@ use borrow.Author.Needs.{needs}
 use Rattle.numeral.proofs.up_to.Statement.{statement}
 use Rattle.numeral.proofs.up_to.Tie as tie
 
-cast-t6 : tie.Need-cast-t6
-cast-t6 c = search needs
-
 returns : tie.Need-returns
 returns c = rw (le-leb _ _ (c .if1 .taken))
 
@@ -13,4 +10,6 @@ returns-2 : tie.Need-returns-2
 returns-2 c = rw (lt-leb _ _ (c .if1 .left))
 
 pub up-to-spec : {M : Type 1} → statement M
-up-to-spec = tie.close (tie.spec cast-t6 returns returns-2)
+up-to-spec = tie.close
+    (tie.spec
+    (λ c. search needs) returns returns-2)

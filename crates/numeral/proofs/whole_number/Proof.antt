@@ -4,12 +4,6 @@ use borrow.Author.Needs.{needs}
 use Rattle.numeral.proofs.whole_number.Statement.{statement}
 use Rattle.numeral.proofs.whole_number.Tie as tie
 
-span-requires : tie.Need-span-requires
-span-requires c κs = search needs
-
-value-requires : tie.Need-value-requires
-value-requires c κs = search needs
-
 returns : tie.Need-returns
 unfolding wholeNumber
 returns c =
@@ -25,4 +19,6 @@ unfolding wholeNumber
 returns-3 c = rw (le-ltb _ _ (c .if1 .left))
 
 pub whole-number-spec : {M : Type 1} → statement M
-whole-number-spec = tie.close (tie.spec span-requires value-requires returns returns-2 returns-3)
+whole-number-spec = tie.close
+    (tie.spec
+    (λ c κs. search needs) (λ c κs. search needs) returns returns-2 returns-3)

@@ -4,21 +4,6 @@ use borrow.Author.Needs.{needs}
 use Rattle.plain.proofs.fad_of.Statement.{statement}
 use Rattle.plain.proofs.fad_of.Tie as tie
 
-array-read-not-below-zero : tie.Need-array-read-not-below-zero
-array-read-not-below-zero c = search needs
-
-not-below-zero-requires : tie.Need-not-below-zero-requires
-not-below-zero-requires c κs = search needs
-
-array-read-not-below-zero-2 : tie.Need-array-read-not-below-zero-2
-array-read-not-below-zero-2 c = search needs
-
-not-below-zero-requires-2 : tie.Need-not-below-zero-requires-2
-not-below-zero-requires-2 c κs = search needs
-
-record-requires : tie.Need-record-requires
-record-requires c κs = search needs
-
 returns : tie.Need-returns
 unfolding fadTag
 returns c =
@@ -37,11 +22,4 @@ pub fad-of-spec : {M : Type 1} → statement M
 fad-of-spec =
     tie.close
     (tie.spec
-    array-read-not-below-zero
-    not-below-zero-requires
-    array-read-not-below-zero-2
-    not-below-zero-requires-2
-    record-requires
-    returns
-    returns-2
-    returns-3)
+    (λ c. search needs) (λ c κs. search needs) (λ c. search needs) (λ c κs. search needs) (λ c κs. search needs) returns returns-2 returns-3)

@@ -4,32 +4,11 @@ use borrow.Author.Needs.{needs}
 use Rattle.plain.proofs.flag_of.Statement.{statement}
 use Rattle.plain.proofs.flag_of.Tie as tie
 
-trim-start-requires : tie.Need-trim-start-requires
-trim-start-requires c κs = search needs
-
-trim-end-requires : tie.Need-trim-end-requires
-trim-end-requires c κs = search needs
-
-sub-if1 : tie.Need-sub-if1
-sub-if1 c = search needs
-
-shared-slice-read-if2 : tie.Need-shared-slice-read-if2
-shared-slice-read-if2 c = search needs
-
-record-requires : tie.Need-record-requires
-record-requires c κs = search needs
-
 returns : tie.Need-returns
 unfolding flagTag
 returns c =
     let b = c .before .before .before in
     rw (← b .before .before .trim-start .ensures .is, ← b .before .trim-end .ensures .is, eq-eqb _ _ (b .if1 .taken), eq-eqb _ _ (c .before .if2 .taken), c .«record» .ensures)
-
-shared-slice-read-if3 : tie.Need-shared-slice-read-if3
-shared-slice-read-if3 c = search needs
-
-record-requires-2 : tie.Need-record-requires-2
-record-requires-2 c κs = search needs
 
 returns-2 : tie.Need-returns-2
 unfolding flagTag
@@ -51,14 +30,4 @@ pub flag-of-spec : {M : Type 1} → statement M
 flag-of-spec =
     tie.close
     (tie.spec
-    trim-start-requires
-    trim-end-requires
-    sub-if1
-    shared-slice-read-if2
-    record-requires
-    returns
-    shared-slice-read-if3
-    record-requires-2
-    returns-2
-    returns-3
-    returns-4)
+    (λ c κs. search needs) (λ c κs. search needs) (λ c. search needs) (λ c. search needs) (λ c κs. search needs) returns (λ c. search needs) (λ c κs. search needs) returns-2 returns-3 returns-4)

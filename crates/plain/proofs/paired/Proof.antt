@@ -4,15 +4,6 @@ use borrow.Author.Needs.{needs}
 use Rattle.plain.proofs.paired.Statement.{statement}
 use Rattle.plain.proofs.paired.Tie as tie
 
-array-read-record : tie.Need-array-read-record
-array-read-record c = search needs
-
-array-read-record-2 : tie.Need-array-read-record-2
-array-read-record-2 c = search needs
-
-record-requires : tie.Need-record-requires
-record-requires c κs = search needs
-
 returns : tie.Need-returns
 unfolding pairTag
 returns c = rw (c .before .before .before .if1 .taken, eq-eqb _ _ (c .before .if2 .taken), c .«record» .ensures)
@@ -28,4 +19,5 @@ returns-3 c = rw (c .if1 .left)
 pub paired-spec : {M : Type 1} → statement M
 paired-spec =
     tie.close
-    (tie.spec array-read-record array-read-record-2 record-requires returns returns-2 returns-3)
+    (tie.spec
+    (λ c. search needs) (λ c. search needs) (λ c κs. search needs) returns returns-2 returns-3)

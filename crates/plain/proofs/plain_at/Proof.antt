@@ -8,9 +8,6 @@ use borrow.Author.Needs.{needs}
 use Rattle.plain.proofs.plain_at.Statement.{statement}
 use Rattle.plain.proofs.plain_at.Tie as tie
 
-is-fn-requires : tie.Need-is-fn-requires
-is-fn-requires c κs = search needs
-
 fn-tag-requires : tie.Need-fn-tag-requires
 fn-tag-requires c κs =
     let h = fn-goes-on _ _ _ (sym (c .before .is-fn .ensures) ∙ c .if1 .taken) in
@@ -20,29 +17,11 @@ returns : tie.Need-returns
 unfolding plainAt fnTag records
 returns c = rw (← c .before .before .is-fn .ensures, c .before .if1 .taken, c .fn-tag .ensures)
 
-is-named-reset-requires : tie.Need-is-named-reset-requires
-is-named-reset-requires c κs = search needs
-
-add-part-of : tie.Need-add-part-of
-add-part-of c = search needs
-
-part-of-requires : tie.Need-part-of-requires
-part-of-requires c κs = search needs
-
-record-requires : tie.Need-record-requires
-record-requires c κs = search needs
-
 returns-2 : tie.Need-returns-2
 unfolding plainAt records
 returns-2 c =
     let b = c .before .before .before in
     rw (← b .before .before .is-fn .ensures, b .before .if1 .left, ← b .is-named-reset .ensures, c .before .before .if2 .taken, c .«record» .ensures, c .before .part-of .ensures)
-
-shape-of-requires : tie.Need-shape-of-requires
-shape-of-requires c κs = search needs
-
-shaped-requires : tie.Need-shaped-requires
-shaped-requires c κs = search needs
 
 returns-3 : tie.Need-returns-3
 unfolding plainAt
@@ -54,14 +33,4 @@ pub plain-at-spec : {M : Type 1} → statement M
 plain-at-spec =
     tie.close
     (tie.spec
-    is-fn-requires
-    fn-tag-requires
-    returns
-    is-named-reset-requires
-    add-part-of
-    part-of-requires
-    record-requires
-    returns-2
-    shape-of-requires
-    shaped-requires
-    returns-3)
+    (λ c κs. search needs) fn-tag-requires returns (λ c κs. search needs) (λ c. search needs) (λ c κs. search needs) (λ c κs. search needs) returns-2 (λ c κs. search needs) (λ c κs. search needs) returns-3)

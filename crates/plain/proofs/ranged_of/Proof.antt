@@ -4,23 +4,11 @@ use borrow.Author.Needs.{needs}
 use Rattle.plain.proofs.ranged_of.Statement.{statement}
 use Rattle.plain.proofs.ranged_of.Tie as tie
 
-enum-known-n : tie.Need-enum-known-n
-enum-known-n c = search needs
-
-record-requires : tie.Need-record-requires
-record-requires c κs = search needs
-
 returns : tie.Need-returns
 unfolding rangedTag
 returns c =
     let b = c .before .before in
     rw (b .before .before .n .given .1, le-leb _ _ (b .if1 .taken), le-leb _ _ (c .before .if2 .taken), c .«record» .ensures)
-
-enum-told : tie.Need-enum-told
-enum-told c = search needs
-
-enum-told-2 : tie.Need-enum-told-2
-enum-told-2 c = search needs
 
 returns-2 : tie.Need-returns-2
 unfolding rangedTag
@@ -42,12 +30,4 @@ pub ranged-of-spec : {M : Type 1} → statement M
 ranged-of-spec =
     tie.close
     (tie.spec
-    enum-known-n
-    record-requires
-    returns
-    enum-told
-    enum-told-2
-    returns-2
-    returns-3
-    returns-4
-    returns-5)
+    (λ c. search needs) (λ c κs. search needs) returns (λ c. search needs) (λ c. search needs) returns-2 returns-3 returns-4 returns-5)

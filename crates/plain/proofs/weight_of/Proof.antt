@@ -4,33 +4,15 @@ use borrow.Author.Needs.{needs}
 use Rattle.plain.proofs.weight_of.Statement.{statement}
 use Rattle.plain.proofs.weight_of.Tie as tie
 
-enum-known-n : tie.Need-enum-known-n
-enum-known-n c = search needs
-
-record-requires : tie.Need-record-requires
-record-requires c κs = search needs
-
 returns : tie.Need-returns
 unfolding weightTag
 returns c = rw (c .before .before .before .n .given .1, eq-eqb _ _ (c .before .if1 .taken), c .«record» .ensures)
-
-record-requires-2 : tie.Need-record-requires-2
-record-requires-2 c κs = search needs
 
 returns-2 : tie.Need-returns-2
 unfolding weightTag
 returns-2 c =
     let b = c .before .before in
     rw (b .before .before .n .given .1, ne-eqb _ _ (b .if1 .left), eq-eqb _ _ (c .before .if2 .taken), c .record2 .ensures)
-
-ranged-of-requires : tie.Need-ranged-of-requires
-ranged-of-requires c κs = search needs
-
-enum-told : tie.Need-enum-told
-enum-told c = search needs
-
-enum-told-2 : tie.Need-enum-told-2
-enum-told-2 c = search needs
 
 returns-3 : tie.Need-returns-3
 unfolding weightTag
@@ -50,14 +32,4 @@ pub weight-of-spec : {M : Type 1} → statement M
 weight-of-spec =
     tie.close
     (tie.spec
-    enum-known-n
-    record-requires
-    returns
-    record-requires-2
-    returns-2
-    ranged-of-requires
-    enum-told
-    enum-told-2
-    returns-3
-    returns-4
-    returns-5)
+    (λ c. search needs) (λ c κs. search needs) returns (λ c κs. search needs) returns-2 (λ c κs. search needs) (λ c. search needs) (λ c. search needs) returns-3 returns-4 returns-5)

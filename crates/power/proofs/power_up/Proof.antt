@@ -7,12 +7,6 @@ use Rattle.power.specs.Power.{power256, steps, powerUp}
 use Rattle.power.proofs.power_up.Statement.{statement}
 use Rattle.power.proofs.power_up.Tie as tie
 
-in-256ths-requires : tie.Need-in-256ths-requires
-in-256ths-requires c κs = search needs
-
-power-256-requires : tie.Need-power-256-requires
-power-256-requires c κs = search needs
-
 returns : tie.Need-returns
 unfolding powerUp ofBits
 returns c = let a = c .before .args in sym (ap (λ (t : Bool). cond t zero (power256 (a .x) (steps (a .a)))) (c .if1 .taken))
@@ -24,4 +18,6 @@ returns-2 c =
     c .power-256 .ensures ∙ ap (power256 (a .x)) (c .before .in-256ths .ensures) ∙ sym (ap (λ (t : Bool). cond t zero (power256 (a .x) (steps (a .a)))) (c .before .before .if1 .left))
 
 pub power-up-spec : {M : Type 1} → statement M
-power-up-spec = tie.close (tie.spec in-256ths-requires power-256-requires returns returns-2)
+power-up-spec = tie.close
+    (tie.spec
+    (λ c κs. search needs) (λ c κs. search needs) returns returns-2)

@@ -3,15 +3,6 @@ use borrow.Author.Needs.{needs}
 use Rattle.read.proofs.brace_end.Statement.{statement}
 use Rattle.read.proofs.brace_end.Tie as tie
 
-sub-if2 : tie.Need-sub-if2
-sub-if2 c = search needs
-
-shared-slice-read-if2 : tie.Need-shared-slice-read-if2
-shared-slice-read-if2 c = search needs
-
-sub-result : tie.Need-sub-result
-sub-result c = search needs
-
 returns : tie.Need-returns
 returns c = record { is = rw (lt-ltb _ _ (c .before .before .if1 .taken), eq-eqb _ _ (c .if2 .taken)); low = search needs; high = search needs }
 
@@ -23,4 +14,6 @@ returns-3 c = record { is = rw (le-ltb _ _ (c .if1 .left)); low = search needs; 
 
 pub brace-end-spec : {M : Type 1} → statement M
 brace-end-spec =
-    tie.close (tie.spec sub-if2 shared-slice-read-if2 sub-result returns returns-2 returns-3)
+    tie.close
+    (tie.spec
+    (λ c. search needs) (λ c. search needs) (λ c. search needs) returns returns-2 returns-3)

@@ -4,21 +4,6 @@ use borrow.Author.Needs.{needs}
 use Rattle.read.proofs.check_read.Statement.{statement}
 use Rattle.read.proofs.check_read.Tie as tie
 
-enum-known-long : tie.Need-enum-known-long
-enum-known-long c = search needs
-
-enum-told : tie.Need-enum-told
-enum-told c = search needs
-
-enum-known-far : tie.Need-enum-known-far
-enum-known-far c = search needs
-
-enum-told-2 : tie.Need-enum-told-2
-enum-told-2 c = search needs
-
-least-requires : tie.Need-least-requires
-least-requires c κs = search needs
-
 returns : tie.Need-returns
 unfolding readGround
 returns c = rw (c .before .long .given .1)
@@ -39,12 +24,4 @@ pub check-read-spec : {M : Type 1} → statement M
 check-read-spec =
     tie.close
     (tie.spec
-    enum-known-long
-    enum-told
-    enum-known-far
-    enum-told-2
-    least-requires
-    returns
-    returns-2
-    returns-3
-    returns-4)
+    (λ c. search needs) (λ c. search needs) (λ c. search needs) (λ c. search needs) (λ c κs. search needs) returns returns-2 returns-3 returns-4)

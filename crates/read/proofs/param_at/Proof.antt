@@ -6,34 +6,13 @@ use borrow.Author.Needs.{needs}
 use Rattle.read.proofs.param_at.Statement.{statement}
 use Rattle.read.proofs.param_at.Tie as tie
 
-shared-slice-read-if2 : tie.Need-shared-slice-read-if2
-shared-slice-read-if2 c = search needs
-
-add-closing : tie.Need-add-closing
-add-closing c = search needs
-
-closing-requires : tie.Need-closing-requires
-closing-requires c κs = search needs
-
-add-t13 : tie.Need-add-t13
-add-t13 c = search needs
-
-add-t14 : tie.Need-add-t14
-add-t14 c = search needs
-
 returns : tie.Need-returns
 unfolding paramAt
 returns c = record { is = rw (lt-ltb _ _ (c .before .before .before .before .if1 .taken), eq-eqb _ _ (c .before .before .if2 .taken), ← c .before .closing .ensures .is, lt-ltb _ _ (c .if3 .taken)); name-is = refl; end-is = refl; low = search needs; order = search needs; next-low = search needs; high = search needs }
 
-add-t11 : tie.Need-add-t11
-add-t11 c = search needs
-
 returns-2 : tie.Need-returns-2
 unfolding paramAt
 returns-2 c = record { is = rw (lt-ltb _ _ (c .before .before .before .before .if1 .taken), eq-eqb _ _ (c .before .before .if2 .taken), ← c .before .closing .ensures .is, le-ltb _ _ (c .if3 .left)); name-is = refl; end-is = refl; low = search needs; order = search needs; next-low = search needs; high = search needs }
-
-span-requires : tie.Need-span-requires
-span-requires c κs = search needs
 
 returns-3 : tie.Need-returns-3
 unfolding paramAt
@@ -43,13 +22,4 @@ pub param-at-spec : {M : Type 1} → statement M
 param-at-spec =
     tie.close
     (tie.spec
-    shared-slice-read-if2
-    add-closing
-    closing-requires
-    add-t13
-    add-t14
-    returns
-    add-t11
-    returns-2
-    span-requires
-    returns-3)
+    (λ c. search needs) (λ c. search needs) (λ c κs. search needs) (λ c. search needs) (λ c. search needs) returns (λ c. search needs) returns-2 (λ c κs. search needs) returns-3)

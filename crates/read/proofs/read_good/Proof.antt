@@ -13,21 +13,12 @@ use Rattle.read.proofs.parse_overrides_depth.Reads as parse-overrides-d
 use Rattle.survey.proofs.straight.Reads as straight-reads
 
 -- src/lib.rt:420:41
-least-requires : tie.Need-least-requires
-least-requires c κs = search needs
-
 -- src/lib.rt:420:8
-straight-requires : tie.Need-straight-requires
-straight-requires c κs = search needs
-
 -- src/lib.rt:421:13
 parse-overrides-depth-requires : tie.Need-parse-overrides-depth-requires
 parse-overrides-depth-requires c κs = (search needs, search needs, omega (arith, good-short _ (c .before .before .before .before .before .before .pre .2)))
 
 -- src/lib.rt:422:9
-same-length : tie.Need-same-length
-same-length c = search needs
-
 -- src/lib.rt:422:9
 returns : tie.Need-returns
 returns c =
@@ -36,45 +27,24 @@ returns c =
     straight _ _ _ _ _ _ (straight-read _ _ _ (record { order = p .0; high = p .1 }) (p .2) (rw (c .before .before .before .before .before .before .least .ensures) at f)) (c .before .before .parse-overrides-depth .ensures)
 
 -- src/lib.rt:424:57
-slice-relend-prefix-parse-overrides-depth : tie.Need-slice-relend-prefix-parse-overrides-depth
-slice-relend-prefix-parse-overrides-depth c = search needs
-
 -- src/lib.rt:424:57
-slice-aggregate-parse-overrides-depth : tie.Need-slice-aggregate-parse-overrides-depth
-slice-aggregate-parse-overrides-depth c = search needs
-
 -- src/lib.rt:424:9
 parse-overrides-depth-requires-2 : tie.Need-parse-overrides-depth-requires-2
 parse-overrides-depth-requires-2 c κs = (search needs, search needs, omega (arith, good-short _ (c .before .before .before .before .before .before .pre .2)))
 
 -- src/lib.rt:425:9
-check-read-requires : tie.Need-check-read-requires
-check-read-requires c κs = search needs
-
 -- src/lib.rt:427:26
-enum-known-answer : tie.Need-enum-known-answer
-enum-known-answer c = search needs
-
 -- src/lib.rt:428:23
-enum-known-answer-2 : tie.Need-enum-known-answer-2
-enum-known-answer-2 c = search needs
-
 -- src/lib.rt:429:21
 parse-overrides-depth-requires-3 : tie.Need-parse-overrides-depth-requires-3
 parse-overrides-depth-requires-3 c κs = (search needs, search needs, omega (arith, good-short _ (c .before .before .before .before .before .before .before .before .before .before .before .before .before .before .pre .2)))
 
 -- src/lib.rt:416:1
-same-length-2 : tie.Need-same-length-2
-same-length-2 c = search needs
-
 -- src/lib.rt:416:1
 returns-2 : tie.Need-returns-2
 returns-2 c = refused _ _ _ _ _ _ (c .before .before .before .before .before .before .before .before .before .before .before .before .before .pre .2) (c .before .before .before .before .before .before .parse-overrides-depth2 .ensures) _ (sym (c .before .before .before .check-read .ensures) ∙ c .before .answer .given .1)
 
 -- src/lib.rt:416:1
-same-length-3 : tie.Need-same-length-3
-same-length-3 c = search needs
-
 -- src/lib.rt:416:1
 returns-3 : tie.Need-returns-3
 returns-3 c = done _ _ _ _ _ _ (c .before .before .before .before .before .before .before .before .before .before .before .before .before .before .before .before .before .pre .2) (c .before .before .before .before .before .before .before .before .before .before .parse-overrides-depth2 .ensures) _ _ _ _ (sym (c .before .before .before .before .before .before .before .check-read .ensures) ∙ c .before .before .before .before .before .answer2 .given .1) (c .before .before .parse-overrides-depth3 .ensures)
@@ -83,19 +53,4 @@ pub read-good-spec : {M : Type 1} → statement M
 read-good-spec =
     tie.close
     (tie.spec
-    least-requires
-    straight-requires
-    parse-overrides-depth-requires
-    same-length
-    returns
-    slice-relend-prefix-parse-overrides-depth
-    slice-aggregate-parse-overrides-depth
-    parse-overrides-depth-requires-2
-    check-read-requires
-    enum-known-answer
-    enum-known-answer-2
-    parse-overrides-depth-requires-3
-    same-length-2
-    returns-2
-    same-length-3
-    returns-3)
+    (λ c κs. search needs) (λ c κs. search needs) parse-overrides-depth-requires (λ c. search needs) returns (λ c. search needs) (λ c. search needs) parse-overrides-depth-requires-2 (λ c κs. search needs) (λ c. search needs) (λ c. search needs) parse-overrides-depth-requires-3 (λ c. search needs) returns-2 (λ c. search needs) returns-3)

@@ -12,12 +12,6 @@ returns-2 : tie.Need-returns-2
 unfolding tWords
 returns-2 c = rw (ne-eqb _ _ (c .before .before .if1 .left), eq-eqb _ _ (c .if2 .taken))
 
-time-of-requires : tie.Need-time-of-requires
-time-of-requires c κs = search needs
-
-time-of-requires-2 : tie.Need-time-of-requires-2
-time-of-requires-2 c κs = search needs
-
 returns-3 : tie.Need-returns-3
 unfolding tWords
 returns-3 c = rw (ne-eqb _ _ (c .before .before .before .before .before .before .if1 .left), ne-eqb _ _ (c .before .before .before .before .if2 .left), eq-eqb _ _ (c .if3 .taken), c .before .before .before .time-of .ensures, c .before .before .time-of2 .ensures)
@@ -28,4 +22,6 @@ returns-4 c = rw (ne-eqb _ _ (c .before .before .before .before .before .before 
 
 pub t-record-spec : {M : Type 1} → statement M
 t-record-spec =
-    tie.close (tie.spec returns returns-2 time-of-requires time-of-requires-2 returns-3 returns-4)
+    tie.close
+    (tie.spec
+    returns returns-2 (λ c κs. search needs) (λ c κs. search needs) returns-3 returns-4)

@@ -16,12 +16,11 @@ returns-3 : tie.Need-returns-3
 unfolding headed
 returns-3 c = rw (ne-eqb _ _ (c .before .before .before .before .if1 .left), ne-eqb _ _ (c .before .before .if2 .left), eq-eqb _ _ (c .if3 .taken))
 
-add-t4 : tie.Need-add-t4
-add-t4 c = search needs
-
 returns-4 : tie.Need-returns-4
 unfolding headed
 returns-4 c = rw (ne-eqb _ _ (c .before .before .before .before .before .if1 .left), ne-eqb _ _ (c .before .before .before .if2 .left), ne-eqb _ _ (c .before .if3 .left))
 
 pub with-head-spec : {M : Type 1} → statement M
-with-head-spec = tie.close (tie.spec returns returns-2 returns-3 add-t4 returns-4)
+with-head-spec = tie.close
+    (tie.spec
+    returns returns-2 returns-3 (λ c. search needs) returns-4)

@@ -8,9 +8,6 @@ returns : tie.Need-returns
 unfolding textGround
 returns c = rw (lt-ltb _ _ (c .if1 .taken))
 
-span-requires : tie.Need-span-requires
-span-requires c κs = search needs
-
 returns-2 : tie.Need-returns-2
 unfolding textGround
 returns-2 c = rw (le-ltb _ _ (c .before .before .if1 .left), ← c .before .span .ensures .is, lt-ltb _ _ (c .if2 .taken))
@@ -20,4 +17,6 @@ unfolding textGround
 returns-3 c = rw (le-ltb _ _ (c .before .before .if1 .left), ← c .before .span .ensures .is, le-ltb _ _ (c .if2 .left))
 
 pub check-text-spec : {M : Type 1} → statement M
-check-text-spec = tie.close (tie.spec returns span-requires returns-2 returns-3)
+check-text-spec = tie.close
+    (tie.spec
+    returns (λ c κs. search needs) returns-2 returns-3)

@@ -21,24 +21,6 @@ scaled c =
     (λ h. (ap (λ (n : ℕ). n * square (2 ^ ((u + 101) / 2))) (h .1) ∙ odd-power m u (omega (arith, h .0 .left)), omega (arith, h .1), omega (arith, h .1)))
     (c .if1 .came)
 
-add-m : tie.Need-add-m
-add-m c = search needs
-
-cast-m : tie.Need-cast-m
-cast-m c = search needs
-
-mul-n : tie.Need-mul-n
-mul-n c = search needs
-
-mul-n-2 : tie.Need-mul-n-2
-mul-n-2 c = search needs
-
-guess-requires : tie.Need-guess-requires
-guess-requires c κs = search needs
-
-cast-nearest-root : tie.Need-cast-nearest-root
-cast-nearest-root c = search needs
-
 nearest-root-requires : tie.Need-nearest-root-requires
 nearest-root-requires c κs = (omega (arith, scaled (c .before) .1), omega (arith, scaled (c .before) .2), omega arith)
 
@@ -47,12 +29,6 @@ near : (c : tie.After-nearest-root) → Rounded (wide (c .before .before .before
 near c =
     let s = scaled (c .before .before) in
     rounded _ _ _ (s .0) (s .1) (s .2) (c .nearest-root .result) (c .nearest-root .ensures)
-
-add-result : tie.Need-add-result
-add-result c = search needs
-
-mul-result : tie.Need-mul-result
-mul-result c = search needs
 
 cast-result : tie.Need-cast-result
 cast-result c = record { fits = omega (arith, near c .1) }
@@ -72,16 +48,4 @@ pub root-of-spec : {M : Type 1} → statement M
 root-of-spec =
     tie.close
     (tie.spec
-    add-m
-    cast-m
-    mul-n
-    mul-n-2
-    guess-requires
-    cast-nearest-root
-    nearest-root-requires
-    add-result
-    mul-result
-    cast-result
-    add-result-2
-    float-from-bits-result
-    returns)
+    (λ c. search needs) (λ c. search needs) (λ c. search needs) (λ c. search needs) (λ c κs. search needs) (λ c. search needs) nearest-root-requires (λ c. search needs) (λ c. search needs) cast-result add-result-2 float-from-bits-result returns)

@@ -10,9 +10,6 @@ use borrow.Author.Needs.{needs}
 use Rattle.scan.proofs.below.Statement.{statement}
 use Rattle.scan.proofs.below.Tie as tie
 
-highest-requires : tie.Need-highest-requires
-highest-requires c κs = search needs
-
 returns : tie.Need-returns
 returns c =
     let a = c .before .before .before .args in
@@ -21,11 +18,7 @@ returns c =
     let w : Passed p (a .text .now) (a .from) (a .to) (a .to) = record { low = search needs; high = search needs; all = λ j l m. lt-ltb (getD (a .text .now) j 0) (a .x) (omega (arith, h j l m)) } in
     record { is = sym (passed-span p _ _ _ _ w ∙ span-end p _ _ _ (search needs)); low = search needs; high = search needs }
 
-each-requires : tie.Need-each-requires
-each-requires c κs = search needs
-
-returns-2 : tie.Need-returns-2
-returns-2 c = search needs
-
 pub below-spec : {M : Type 1} → statement M
-below-spec = tie.close (tie.spec highest-requires returns each-requires returns-2)
+below-spec = tie.close
+    (tie.spec
+    (λ c κs. search needs) returns (λ c κs. search needs) (λ c. search needs))

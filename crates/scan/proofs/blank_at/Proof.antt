@@ -4,12 +4,6 @@ use borrow.Author.Needs.{needs}
 use Rattle.scan.proofs.blank_at.Statement.{statement}
 use Rattle.scan.proofs.blank_at.Tie as tie
 
-shared-slice-read-is-blank : tie.Need-shared-slice-read-is-blank
-shared-slice-read-is-blank c = search needs
-
-is-blank-requires : tie.Need-is-blank-requires
-is-blank-requires c κs = search needs
-
 returns : tie.Need-returns
 unfolding blankAt
 returns c = (rw (lt-ltb _ _ (c .before .before .before .if1 .taken), ← c .before .is-blank .ensures, c .if2 .taken), search needs)
@@ -24,4 +18,6 @@ returns-3 c = (rw (le-ltb _ _ (c .if1 .left)), search needs)
 
 pub blank-at-spec : {M : Type 1} → statement M
 blank-at-spec =
-    tie.close (tie.spec shared-slice-read-is-blank is-blank-requires returns returns-2 returns-3)
+    tie.close
+    (tie.spec
+    (λ c. search needs) (λ c κs. search needs) returns returns-2 returns-3)

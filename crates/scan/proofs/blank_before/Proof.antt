@@ -4,15 +4,6 @@ use borrow.Author.Needs.{needs}
 use Rattle.scan.proofs.blank_before.Statement.{statement}
 use Rattle.scan.proofs.blank_before.Tie as tie
 
-sub-is-blank : tie.Need-sub-is-blank
-sub-is-blank c = search needs
-
-shared-slice-read-is-blank : tie.Need-shared-slice-read-is-blank
-shared-slice-read-is-blank c = search needs
-
-is-blank-requires : tie.Need-is-blank-requires
-is-blank-requires c κs = search needs
-
 returns : tie.Need-returns
 unfolding blankBefore
 returns c = (rw (lt-ltb _ _ (c .before .before .before .if1 .taken), ← c .before .is-blank .ensures, c .if2 .taken), search needs)
@@ -29,9 +20,4 @@ pub blank-before-spec : {M : Type 1} → statement M
 blank-before-spec =
     tie.close
     (tie.spec
-    sub-is-blank
-    shared-slice-read-is-blank
-    is-blank-requires
-    returns
-    returns-2
-    returns-3)
+    (λ c. search needs) (λ c. search needs) (λ c κs. search needs) returns returns-2 returns-3)

@@ -12,17 +12,11 @@ returns-2 c = digit-decimal _ (search needs) (search needs)
 returns-3 : tie.Need-returns-3
 returns-3 c = digit-between (c .before .before .before .args .b) (search needs) (search needs)
 
-sub-result : tie.Need-sub-result
-sub-result c = search needs
-
 returns-4 : tie.Need-returns-4
 returns-4 c = digit-upper _ (search needs) (search needs)
 
 returns-5 : tie.Need-returns-5
 returns-5 c = digit-middle (c .before .before .before .before .before .args .b) (search needs) (search needs)
-
-sub-result-2 : tie.Need-sub-result-2
-sub-result-2 c = search needs
 
 returns-6 : tie.Need-returns-6
 returns-6 c = digit-lower _ (search needs) (search needs)
@@ -34,12 +28,4 @@ pub digit-of-spec : {M : Type 1} → statement M
 digit-of-spec =
     tie.close
     (tie.spec
-    returns
-    returns-2
-    returns-3
-    sub-result
-    returns-4
-    returns-5
-    sub-result-2
-    returns-6
-    returns-7)
+    returns returns-2 returns-3 (λ c. search needs) returns-4 returns-5 (λ c. search needs) returns-6 returns-7)

@@ -6,9 +6,6 @@ use borrow.Author.Needs.{needs}
 use Rattle.scan.proofs.is_digit.Statement.{statement}
 use Rattle.scan.proofs.is_digit.Tie as tie
 
-digit-of-requires : tie.Need-digit-of-requires
-digit-of-requires c κs = search needs
-
 returns : tie.Need-returns
 returns c = rw (c .digit-of .ensures)
 
@@ -19,4 +16,6 @@ returns-3 : tie.Need-returns-3
 returns-3 c = let a = c .before .before .args in digit-radix (a .b) (a .radix) (c .before .if1 .left) (c .if2 .left)
 
 pub is-digit-spec : {M : Type 1} → statement M
-is-digit-spec = tie.close (tie.spec digit-of-requires returns returns-2 returns-3)
+is-digit-spec = tie.close
+    (tie.spec
+    (λ c κs. search needs) returns returns-2 returns-3)

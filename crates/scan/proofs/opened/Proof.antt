@@ -3,12 +3,6 @@ use borrow.Author.Needs.{needs}
 use Rattle.scan.proofs.opened.Statement.{statement}
 use Rattle.scan.proofs.opened.Tie as tie
 
-add-result : tie.Need-add-result
-add-result c = search needs
-
-sub-result : tie.Need-sub-result
-sub-result c = search needs
-
 returns : tie.Need-returns
 returns c = (simp (eq-eqb _ _ (c .if1 .taken)), search needs)
 
@@ -19,4 +13,6 @@ returns-3 : tie.Need-returns-3
 returns-3 c = (simp (ne-eqb _ _ (c .before .if1 .left), ne-eqb _ _ (c .if2 .left)), search needs)
 
 pub opened-spec : {M : Type 1} → statement M
-opened-spec = tie.close (tie.spec add-result sub-result returns returns-2 returns-3)
+opened-spec = tie.close
+    (tie.spec
+    (λ c. search needs) (λ c. search needs) returns returns-2 returns-3)

@@ -3,15 +3,6 @@ use borrow.Author.Needs.{needs}
 use Rattle.scan.proofs.past.Statement.{statement}
 use Rattle.scan.proofs.past.Tie as tie
 
-shared-slice-read-has : tie.Need-shared-slice-read-has
-shared-slice-read-has c = search needs
-
-has-requires : tie.Need-has-requires
-has-requires c κs = search needs
-
-add-result : tie.Need-add-result
-add-result c = search needs
-
 returns : tie.Need-returns
 returns c =
     record { is = rw (lt-ltb _ _ (c .before .before .before .if1 .taken), ← c .before .has .ensures, c .if2 .taken); low = search needs; high = search needs }
@@ -25,4 +16,6 @@ returns-3 c = record { is = rw (le-ltb _ _ (c .if1 .left)); low = search needs; 
 
 pub past-spec : {M : Type 1} → statement M
 past-spec =
-    tie.close (tie.spec shared-slice-read-has has-requires add-result returns returns-2 returns-3)
+    tie.close
+    (tie.spec
+    (λ c. search needs) (λ c κs. search needs) (λ c. search needs) returns returns-2 returns-3)

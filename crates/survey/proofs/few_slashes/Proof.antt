@@ -8,17 +8,13 @@ use Rattle.survey.proofs.few_slashes.Reads as reads
 use Rattle.survey.proofs.few_slashes.Lts as lts
 use Rattle.survey.proofs.slashes.Reads as slashes-reads
 
-sub-if1 : tie.Need-sub-if1
-sub-if1 c = search needs
-
 returns : tie.Need-returns
 returns c h = le-trans (slashes-most (c .before .before .args .text .now) _ _) (c .if1 .taken)
-
-slashes-requires : tie.Need-slashes-requires
-slashes-requires c κs = search needs
 
 returns-2 : tie.Need-returns-2
 returns-2 c h = rw (← c .slashes .ensures) (leb-true _ _ h)
 
 pub few-slashes-spec : {M : Type 1} → statement M
-few-slashes-spec = tie.close (tie.spec sub-if1 returns slashes-requires returns-2)
+few-slashes-spec = tie.close
+    (tie.spec
+    (λ c. search needs) returns (λ c κs. search needs) returns-2)

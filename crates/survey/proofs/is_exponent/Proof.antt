@@ -7,15 +7,9 @@ use Rattle.survey.proofs.is_exponent.Tie as tie
 use Rattle.survey.proofs.is_exponent.Reads as reads
 use Rattle.survey.proofs.is_exponent.Lts as lts
 
-has-requires : tie.Need-has-requires
-has-requires c κs = search needs
-
 returns : tie.Need-returns
 unfolding isExponent
 returns c = rw (← c .before .before .has .ensures, c .before .if1 .taken, eq-eqb _ 46 (c .if2 .taken))
-
-has-requires-2 : tie.Need-has-requires-2
-has-requires-2 c κs = search needs
 
 returns-2 : tie.Need-returns-2
 unfolding isExponent
@@ -26,4 +20,6 @@ unfolding isExponent
 returns-3 c = rw (← c .before .has .ensures, c .if1 .left)
 
 pub is-exponent-spec : {M : Type 1} → statement M
-is-exponent-spec = tie.close (tie.spec has-requires returns has-requires-2 returns-2 returns-3)
+is-exponent-spec = tie.close
+    (tie.spec
+    (λ c κs. search needs) returns (λ c κs. search needs) returns-2 returns-3)

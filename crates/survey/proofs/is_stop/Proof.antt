@@ -8,9 +8,6 @@ use Rattle.survey.proofs.is_stop.Lts as lts
 use Rattle.scan.proofs.has.Reads as has-reads
 use Rattle.scan.proofs.is_blank.Reads as is-blank-reads
 
-is-blank-requires : tie.Need-is-blank-requires
-is-blank-requires c κs = search needs
-
 returns : tie.Need-returns
 unfolding isStop
 returns c = rw (← c .before .is-blank .ensures, c .if1 .taken)
@@ -19,12 +16,11 @@ returns-2 : tie.Need-returns-2
 unfolding isStop
 returns-2 c = rw (← c .before .before .is-blank .ensures, c .before .if1 .left, eq-eqb _ 41 (c .if2 .taken))
 
-has-requires : tie.Need-has-requires
-has-requires c κs = search needs
-
 returns-3 : tie.Need-returns-3
 unfolding isStop
 returns-3 c = rw (← c .before .before .before .is-blank .ensures, c .before .before .if1 .left, ne-eqb _ 41 (c .before .if2 .left)) (c .has .ensures)
 
 pub is-stop-spec : {M : Type 1} → statement M
-is-stop-spec = tie.close (tie.spec is-blank-requires returns returns-2 has-requires returns-3)
+is-stop-spec = tie.close
+    (tie.spec
+    (λ c κs. search needs) returns returns-2 (λ c κs. search needs) returns-3)

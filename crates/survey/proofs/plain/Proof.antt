@@ -10,19 +10,10 @@ use Rattle.survey.proofs.harmless.Reads as harmless-reads
 use Rattle.survey.proofs.no_exponent.Reads as no-exponent-reads
 use Rattle.survey.proofs.no_ten.Reads as no-ten-reads
 
-no-ten-requires : tie.Need-no-ten-requires
-no-ten-requires c κs = search needs
-
-no-exponent-requires : tie.Need-no-exponent-requires
-no-exponent-requires c κs = search needs
-
 returns : tie.Need-returns
 returns c h =
     let n = c .before .no-exponent .ensures (c .if2 .taken) in
     plain-is _ _ _ (λ j a b x y. n j a b x) (c .before .before .before .no-ten .ensures (c .before .before .if1 .taken))
-
-harmless-requires : tie.Need-harmless-requires
-harmless-requires c κs = search needs
 
 returns-2 : tie.Need-returns-2
 returns-2 c h = plain-is _ _ _ (c .harmless .ensures h) (c .before .before .before .before .no-ten .ensures (c .before .before .before .if1 .taken))
@@ -33,4 +24,5 @@ returns-3 c h = absurd (true≢false (sym h))
 pub plain-spec : {M : Type 1} → statement M
 plain-spec =
     tie.close
-    (tie.spec no-ten-requires no-exponent-requires returns harmless-requires returns-2 returns-3)
+    (tie.spec
+    (λ c κs. search needs) (λ c κs. search needs) returns (λ c κs. search needs) returns-2 returns-3)

@@ -8,12 +8,6 @@ use Rattle.survey.proofs.straight.Lts as lts
 use Rattle.survey.proofs.few_slashes.Reads as few-slashes-reads
 use Rattle.survey.proofs.plain.Reads as plain-reads
 
-few-slashes-requires : tie.Need-few-slashes-requires
-few-slashes-requires c κs = search needs
-
-plain-requires : tie.Need-plain-requires
-plain-requires c κs = search needs
-
 returns : tie.Need-returns
 returns c h = record { plain = c .plain .ensures h; few = c .before .before .few-slashes .ensures (c .before .if1 .taken) }
 
@@ -21,4 +15,6 @@ returns-2 : tie.Need-returns-2
 returns-2 c h = absurd (true≢false (sym h))
 
 pub straight-spec : {M : Type 1} → statement M
-straight-spec = tie.close (tie.spec few-slashes-requires plain-requires returns returns-2)
+straight-spec = tie.close
+    (tie.spec
+    (λ c κs. search needs) (λ c κs. search needs) returns returns-2)

@@ -6,18 +6,6 @@ use borrow.Author.Needs.{needs}
 use Rattle.table.proofs.check_call.Statement.{statement}
 use Rattle.table.proofs.check_call.Tie as tie
 
-check-table-requires : tie.Need-check-table-requires
-check-table-requires c κs = search needs
-
-enum-told : tie.Need-enum-told
-enum-told c = search needs
-
-check-times-requires : tie.Need-check-times-requires
-check-times-requires c κs = search needs
-
-enum-known-found : tie.Need-enum-known-found
-enum-known-found c = search needs
-
 returns : tie.Need-returns
 returns c =
     let s = c .before .before .before .before .before in
@@ -32,9 +20,4 @@ pub check-call-spec : {M : Type 1} → statement M
 check-call-spec =
     tie.close
     (tie.spec
-    check-table-requires
-    enum-told
-    check-times-requires
-    enum-known-found
-    returns
-    returns-2)
+    (λ c κs. search needs) (λ c. search needs) (λ c κs. search needs) (λ c. search needs) returns returns-2)

@@ -10,15 +10,6 @@ use borrow.Author.Needs.{needs}
 use Rattle.table.proofs.check_times.Statement.{statement}
 use Rattle.table.proofs.check_times.Tie as tie
 
-in-time-requires : tie.Need-in-time-requires
-in-time-requires c κs = search needs
-
-in-time-requires-2 : tie.Need-in-time-requires-2
-in-time-requires-2 c κs = search needs
-
-both-requires : tie.Need-both-requires
-both-requires c κs = search needs
-
 returns : tie.Need-returns
 returns c =
     let s = c .before .before .before .before in
@@ -35,4 +26,6 @@ returns-2 c =
 
 pub check-times-spec : {M : Type 1} → statement M
 check-times-spec =
-    tie.close (tie.spec in-time-requires in-time-requires-2 both-requires returns returns-2)
+    tie.close
+    (tie.spec
+    (λ c κs. search needs) (λ c κs. search needs) (λ c κs. search needs) returns returns-2)

@@ -2,45 +2,6 @@ use borrow.Author.Needs.{needs}
 use Rattle.table.proofs.fade_fits.Statement.{statement}
 use Rattle.table.proofs.fade_fits.Tie as tie
 
-is-time-requires : tie.Need-is-time-requires
-is-time-requires c κs = search needs
-
-is-time-requires-2 : tie.Need-is-time-requires-2
-is-time-requires-2 c κs = search needs
-
-is-time-requires-3 : tie.Need-is-time-requires-3
-is-time-requires-3 c κs = search needs
-
-is-time-requires-4 : tie.Need-is-time-requires-4
-is-time-requires-4 c κs = search needs
-
-both-requires : tie.Need-both-requires
-both-requires c κs = search needs
-
-both-requires-2 : tie.Need-both-requires-2
-both-requires-2 c κs = search needs
-
-both-requires-3 : tie.Need-both-requires-3
-both-requires-3 c κs = search needs
-
-within-requires : tie.Need-within-requires
-within-requires c κs = search needs
-
-within-requires-2 : tie.Need-within-requires-2
-within-requires-2 c κs = search needs
-
-within-requires-3 : tie.Need-within-requires-3
-within-requires-3 c κs = search needs
-
-both-requires-4 : tie.Need-both-requires-4
-both-requires-4 c κs = search needs
-
-both-requires-5 : tie.Need-both-requires-5
-both-requires-5 c κs = search needs
-
-both-requires-6 : tie.Need-both-requires-6
-both-requires-6 c κs = search needs
-
 returns : tie.Need-returns
 returns c = cc
 
@@ -48,17 +9,4 @@ pub fade-fits-spec : {M : Type 1} → statement M
 fade-fits-spec =
     tie.close
     (tie.spec
-    is-time-requires
-    is-time-requires-2
-    is-time-requires-3
-    is-time-requires-4
-    both-requires
-    both-requires-2
-    both-requires-3
-    within-requires
-    within-requires-2
-    within-requires-3
-    both-requires-4
-    both-requires-5
-    both-requires-6
-    returns)
+    (λ c κs. search needs) (λ c κs. search needs) (λ c κs. search needs) (λ c κs. search needs) (λ c κs. search needs) (λ c κs. search needs) (λ c κs. search needs) (λ c κs. search needs) (λ c κs. search needs) (λ c κs. search needs) (λ c κs. search needs) (λ c κs. search needs) (λ c κs. search needs) returns)

@@ -4,11 +4,10 @@ use borrow.Author.Needs.{needs}
 use Rattle.table.proofs.in_time.Statement.{statement}
 use Rattle.table.proofs.in_time.Tie as tie
 
-both-requires : tie.Need-both-requires
-both-requires c κs = search needs
-
 returns : tie.Need-returns
 returns c = rw (toZ-ofZ w32 (c .before .args .z) (c .before .fits .z)) at (c .both .ensures)
 
 pub in-time-spec : {M : Type 1} → statement M
-in-time-spec = tie.close (tie.spec both-requires returns)
+in-time-spec = tie.close
+    (tie.spec
+    (λ c κs. search needs) returns)

@@ -6,11 +6,10 @@ use Rattle.table.proofs.part_fits.Tie as tie
 returns : tie.Need-returns
 returns c = rw (eq-eqb _ _ (c .if1 .taken))
 
-add-result : tie.Need-add-result
-add-result c = search needs
-
 returns-2 : tie.Need-returns-2
 returns-2 c = rw (ne-eqb _ _ (c .if1 .left))
 
 pub part-fits-spec : {M : Type 1} → statement M
-part-fits-spec = tie.close (tie.spec returns add-result returns-2)
+part-fits-spec = tie.close
+    (tie.spec
+    returns (λ c. search needs) returns-2)

@@ -2,24 +2,6 @@ use borrow.Author.Needs.{needs}
 use Rattle.table.proofs.reset_fits.Statement.{statement}
 use Rattle.table.proofs.reset_fits.Tie as tie
 
-within-requires : tie.Need-within-requires
-within-requires c κs = search needs
-
-unused-from-5-requires : tie.Need-unused-from-5-requires
-unused-from-5-requires c κs = search needs
-
-both-requires : tie.Need-both-requires
-both-requires c κs = search needs
-
-both-requires-2 : tie.Need-both-requires-2
-both-requires-2 c κs = search needs
-
-style-part-requires : tie.Need-style-part-requires
-style-part-requires c κs = search needs
-
-both-requires-3 : tie.Need-both-requires-3
-both-requires-3 c κs = search needs
-
 returns : tie.Need-returns
 returns c = cc
 
@@ -27,10 +9,4 @@ pub reset-fits-spec : {M : Type 1} → statement M
 reset-fits-spec =
     tie.close
     (tie.spec
-    within-requires
-    unused-from-5-requires
-    both-requires
-    both-requires-2
-    style-part-requires
-    both-requires-3
-    returns)
+    (λ c κs. search needs) (λ c κs. search needs) (λ c κs. search needs) (λ c κs. search needs) (λ c κs. search needs) (λ c κs. search needs) returns)

@@ -3,9 +3,6 @@ use borrow.Author.Needs.{needs}
 use Rattle.table.proofs.times_fit.Statement.{statement}
 use Rattle.table.proofs.times_fit.Tie as tie
 
-both-requires : tie.Need-both-requires
-both-requires c κs = search needs
-
 returns : tie.Need-returns
 returns c = rw (eq-eqb _ _ (c .before .if1 .taken)) (c .both .ensures)
 
@@ -13,4 +10,6 @@ returns-2 : tie.Need-returns-2
 returns-2 c = rw (ne-eqb _ _ (c .if1 .left))
 
 pub times-fit-spec : {M : Type 1} → statement M
-times-fit-spec = tie.close (tie.spec both-requires returns returns-2)
+times-fit-spec = tie.close
+    (tie.spec
+    (λ c κs. search needs) returns returns-2)

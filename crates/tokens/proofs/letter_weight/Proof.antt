@@ -8,9 +8,6 @@ use Rattle.tokens.proofs.letter_weight.Reads as reads
 use Rattle.tokens.proofs.letter_weight.Lts as lts
 use Rattle.scan.proofs.lower.Reads as lower-reads
 
-lower-requires : tie.Need-lower-requires
-lower-requires c κs = search needs
-
 returns : tie.Need-returns
 returns c = (rw (sym (c .before .lower .ensures) ∙ c .match .keys1), omega arith)
 
@@ -23,4 +20,6 @@ returns-3 c =
     (rw (← c .before .lower .ensures, ne-eqb _ 109 (n .0 .1), ne-eqb _ 99 (n .1)), omega arith)
 
 pub letter-weight-spec : {M : Type 1} → statement M
-letter-weight-spec = tie.close (tie.spec lower-requires returns returns-2 returns-3)
+letter-weight-spec = tie.close
+    (tie.spec
+    (λ c κs. search needs) returns returns-2 returns-3)

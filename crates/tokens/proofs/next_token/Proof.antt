@@ -3,20 +3,8 @@ use borrow.Author.Needs.{needs}
 use Rattle.tokens.proofs.next_token.Statement.{statement}
 use Rattle.tokens.proofs.next_token.Tie as tie
 
-trim-start-requires : tie.Need-trim-start-requires
-trim-start-requires c κs = search needs
-
 returns : tie.Need-returns
 returns c = record { is = from-end _ _ _ (c .before .trim-start .ensures .is) (c .if1 .taken); place = tt }
-
-add-token-end : tie.Need-add-token-end
-add-token-end c = search needs
-
-token-end-requires : tie.Need-token-end-requires
-token-end-requires c κs = search needs
-
-token-of-requires : tie.Need-token-of-requires
-token-of-requires c κs = search needs
 
 returns-2 : tie.Need-returns-2
 returns-2 c = record { is = rw (c .token-of .ensures) (from-more _ _ _ _ (c .before .before .before .trim-start .ensures .is) (c .before .before .if1 .left) (c .before .token-end .ensures .0)); place = (search needs, search needs) }
@@ -25,9 +13,4 @@ pub next-token-spec : {M : Type 1} → statement M
 next-token-spec =
     tie.close
     (tie.spec
-    trim-start-requires
-    returns
-    add-token-end
-    token-end-requires
-    token-of-requires
-    returns-2)
+    (λ c κs. search needs) returns (λ c. search needs) (λ c κs. search needs) (λ c κs. search needs) returns-2)

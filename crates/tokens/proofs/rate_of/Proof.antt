@@ -7,9 +7,6 @@ use Rattle.tokens.proofs.rate_of.Reads as reads
 use Rattle.tokens.proofs.rate_of.Lts as lts
 use Rattle.scan.proofs.lower.Reads as lower-reads
 
-lower-requires : tie.Need-lower-requires
-lower-requires c κs = search needs
-
 returns : tie.Need-returns
 returns c = (rw (← c .before .lower .ensures, eq-eqb _ 98 (c .if1 .taken)), omega arith)
 
@@ -17,4 +14,6 @@ returns-2 : tie.Need-returns-2
 returns-2 c = (rw (← c .before .lower .ensures, ne-eqb _ 98 (c .if1 .left)), omega arith)
 
 pub rate-of-spec : {M : Type 1} → statement M
-rate-of-spec = tie.close (tie.spec lower-requires returns returns-2)
+rate-of-spec = tie.close
+    (tie.spec
+    (λ c κs. search needs) returns returns-2)

@@ -9,15 +9,6 @@ use Rattle.tokens.proofs.straight.Lts as lts
 use Rattle.survey.proofs.plain.Reads as plain-reads
 use Rattle.tokens.proofs.light.Reads as light-reads
 
-mul-light : tie.Need-mul-light
-mul-light c = search needs
-
-light-requires : tie.Need-light-requires
-light-requires c κs = search needs
-
-plain-requires : tie.Need-plain-requires
-plain-requires c κs = search needs
-
 returns : tie.Need-returns
 returns c h =
     let l = c .before .before .light .ensures (c .before .if1 .taken) in
@@ -27,4 +18,6 @@ returns-2 : tie.Need-returns-2
 returns-2 c h = absurd (true≢false (sym h))
 
 pub straight-spec : {M : Type 1} → statement M
-straight-spec = tie.close (tie.spec mul-light light-requires plain-requires returns returns-2)
+straight-spec = tie.close
+    (tie.spec
+    (λ c. search needs) (λ c κs. search needs) (λ c κs. search needs) returns returns-2)

@@ -5,37 +5,13 @@ use borrow.Author.Needs.{needs}
 use Rattle.tokens.proofs.token_of.Statement.{statement}
 use Rattle.tokens.proofs.token_of.Tie as tie
 
-one-letter-requires : tie.Need-one-letter-requires
-one-letter-requires c κs = search needs
-
-shared-slice-read-t9 : tie.Need-shared-slice-read-t9
-shared-slice-read-t9 c = search needs
-
 returns : tie.Need-returns
 unfolding tokenOf
 returns c = rw (sym (c .before .before .one-letter .ensures) ∙ c .before .if1 .taken)
 
-special-requires : tie.Need-special-requires
-special-requires c κs = search needs
-
 returns-2 : tie.Need-returns-2
 unfolding tokenOf
 returns-2 c = rw (sym (c .before .before .before .one-letter .ensures) ∙ c .before .before .if1 .left, sym (c .before .special .ensures) ∙ c .if2 .taken)
-
-f32-at-requires : tie.Need-f32-at-requires
-f32-at-requires c κs = search needs
-
-enum-told : tie.Need-enum-told
-enum-told c = search needs
-
-enum-known-n : tie.Need-enum-known-n
-enum-known-n c = search needs
-
-enum-known-n-2 : tie.Need-enum-known-n-2
-enum-known-n-2 c = search needs
-
-f32-of-word-requires : tie.Need-f32-of-word-requires
-f32-of-word-requires c κs = search needs
 
 returns-3 : tie.Need-returns-3
 unfolding tokenOf
@@ -53,16 +29,4 @@ pub token-of-spec : {M : Type 1} → statement M
 token-of-spec =
     tie.close
     (tie.spec
-    one-letter-requires
-    shared-slice-read-t9
-    returns
-    special-requires
-    returns-2
-    f32-at-requires
-    enum-told
-    enum-known-n
-    enum-known-n-2
-    f32-of-word-requires
-    returns-3
-    returns-4
-    returns-5)
+    (λ c κs. search needs) (λ c. search needs) returns (λ c κs. search needs) returns-2 (λ c κs. search needs) (λ c. search needs) (λ c. search needs) (λ c. search needs) (λ c κs. search needs) returns-3 returns-4 returns-5)

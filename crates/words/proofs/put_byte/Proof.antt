@@ -4,17 +4,10 @@ use borrow.Author.Needs.{needs}
 use Rattle.words.proofs.put_byte.Statement.{statement}
 use Rattle.words.proofs.put_byte.Tie as tie
 
-byte-requires : tie.Need-byte-requires
-byte-requires c κs = search needs
-
-put1-requires : tie.Need-put1-requires
-put1-requires c κs = search needs
-
-same-length : tie.Need-same-length
-same-length c = search needs
-
 returns : tie.Need-returns
 returns c = present _ refl (c .before .before .before .before .before .before .pre) (rw (← c .before .before .before .byte .ensures) (c .before .before .put1 .ensures))
 
 pub put-byte-spec : {M : Type 1} → statement M
-put-byte-spec = tie.close (tie.spec byte-requires put1-requires same-length returns)
+put-byte-spec = tie.close
+    (tie.spec
+    (λ c κs. search needs) (λ c κs. search needs) (λ c. search needs) returns)

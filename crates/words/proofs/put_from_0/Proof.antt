@@ -5,33 +5,6 @@ use borrow.Author.Needs.{needs}
 use Rattle.words.proofs.put_from_0.Statement.{statement}
 use Rattle.words.proofs.put_from_0.Tie as tie
 
-put-f32-requires : tie.Need-put-f32-requires
-put-f32-requires c κs = search needs
-
-put-f32-requires-2 : tie.Need-put-f32-requires-2
-put-f32-requires-2 c κs = search needs
-
-put-f32-requires-3 : tie.Need-put-f32-requires-3
-put-f32-requires-3 c κs = search needs
-
-put-f32-requires-4 : tie.Need-put-f32-requires-4
-put-f32-requires-4 c κs = search needs
-
-put-pair-requires : tie.Need-put-pair-requires
-put-pair-requires c κs = search needs
-
-put-opt-pair-requires : tie.Need-put-opt-pair-requires
-put-opt-pair-requires c κs = search needs
-
-put-f32-requires-5 : tie.Need-put-f32-requires-5
-put-f32-requires-5 c κs = search needs
-
-put-opt-rect-requires : tie.Need-put-opt-rect-requires
-put-opt-rect-requires c κs = search needs
-
-put-opt-part-requires : tie.Need-put-opt-part-requires
-put-opt-part-requires c κs = search needs
-
 same-length : tie.Need-same-length
 same-length c = c .before .before .put-opt-part .ensures .clear .wide ∙ sym (c .before .before .before .before .before .before .before .before .before .before .before .before .before .before .before .before .before .before .before .before .before .before .before .before .before .before .before .before .before .before .before .before .before .before .before .before .before .before .before .before .before .before .pre .wide)
 
@@ -53,14 +26,4 @@ pub put-from-0-spec : {M : Type 1} → statement M
 put-from-0-spec =
     tie.close
     (tie.spec
-    put-f32-requires
-    put-f32-requires-2
-    put-f32-requires-3
-    put-f32-requires-4
-    put-pair-requires
-    put-opt-pair-requires
-    put-f32-requires-5
-    put-opt-rect-requires
-    put-opt-part-requires
-    same-length
-    returns)
+    (λ c κs. search needs) (λ c κs. search needs) (λ c κs. search needs) (λ c κs. search needs) (λ c κs. search needs) (λ c κs. search needs) (λ c κs. search needs) (λ c κs. search needs) (λ c κs. search needs) same-length returns)

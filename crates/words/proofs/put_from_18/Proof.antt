@@ -5,33 +5,6 @@ use borrow.Author.Needs.{needs}
 use Rattle.words.proofs.put_from_18.Statement.{statement}
 use Rattle.words.proofs.put_from_18.Tie as tie
 
-put-opt-rgb-requires : tie.Need-put-opt-rgb-requires
-put-opt-rgb-requires c κs = search needs
-
-put-opt-f32-requires : tie.Need-put-opt-f32-requires
-put-opt-f32-requires c κs = search needs
-
-put-opt-pair-requires : tie.Need-put-opt-pair-requires
-put-opt-pair-requires c κs = search needs
-
-put-opt-pair-requires-2 : tie.Need-put-opt-pair-requires-2
-put-opt-pair-requires-2 c κs = search needs
-
-put-opt-pair-requires-3 : tie.Need-put-opt-pair-requires-3
-put-opt-pair-requires-3 c κs = search needs
-
-put-byte-requires : tie.Need-put-byte-requires
-put-byte-requires c κs = search needs
-
-put-pair-requires : tie.Need-put-pair-requires
-put-pair-requires c κs = search needs
-
-put-opt-rect-requires : tie.Need-put-opt-rect-requires
-put-opt-rect-requires c κs = search needs
-
-put-opt-part-requires : tie.Need-put-opt-part-requires
-put-opt-part-requires c κs = search needs
-
 same-length : tie.Need-same-length
 same-length c = c .before .before .put-opt-part .ensures .clear .wide ∙ sym (c .before .before .before .before .before .before .before .before .before .before .before .before .before .before .before .before .before .before .before .before .before .before .before .before .before .before .before .before .before .before .before .before .before .before .before .before .before .before .before .before .before .before .before .before .pre .wide)
 
@@ -53,14 +26,4 @@ pub put-from-18-spec : {M : Type 1} → statement M
 put-from-18-spec =
     tie.close
     (tie.spec
-    put-opt-rgb-requires
-    put-opt-f32-requires
-    put-opt-pair-requires
-    put-opt-pair-requires-2
-    put-opt-pair-requires-3
-    put-byte-requires
-    put-pair-requires
-    put-opt-rect-requires
-    put-opt-part-requires
-    same-length
-    returns)
+    (λ c κs. search needs) (λ c κs. search needs) (λ c κs. search needs) (λ c κs. search needs) (λ c κs. search needs) (λ c κs. search needs) (λ c κs. search needs) (λ c κs. search needs) (λ c κs. search needs) same-length returns)

@@ -5,36 +5,6 @@ use borrow.Author.Needs.{needs}
 use Rattle.words.proofs.put_from_44.Statement.{statement}
 use Rattle.words.proofs.put_from_44.Tie as tie
 
-put-opt-rgb-requires : tie.Need-put-opt-rgb-requires
-put-opt-rgb-requires c κs = search needs
-
-put-opt-rgb-requires-2 : tie.Need-put-opt-rgb-requires-2
-put-opt-rgb-requires-2 c κs = search needs
-
-put-opt-rgb-requires-3 : tie.Need-put-opt-rgb-requires-3
-put-opt-rgb-requires-3 c κs = search needs
-
-put-opt-u8-requires : tie.Need-put-opt-u8-requires
-put-opt-u8-requires c κs = search needs
-
-put-opt-u8-requires-2 : tie.Need-put-opt-u8-requires-2
-put-opt-u8-requires-2 c κs = search needs
-
-put-opt-u8-requires-3 : tie.Need-put-opt-u8-requires-3
-put-opt-u8-requires-3 c κs = search needs
-
-put-opt-u8-requires-4 : tie.Need-put-opt-u8-requires-4
-put-opt-u8-requires-4 c κs = search needs
-
-put-opt-f32-requires : tie.Need-put-opt-f32-requires
-put-opt-f32-requires c κs = search needs
-
-put-opt-u8-requires-5 : tie.Need-put-opt-u8-requires-5
-put-opt-u8-requires-5 c κs = search needs
-
-put-opt-u8-requires-6 : tie.Need-put-opt-u8-requires-6
-put-opt-u8-requires-6 c κs = search needs
-
 same-length : tie.Need-same-length
 same-length c = c .before .before .put-opt-u86 .ensures .clear .wide ∙ sym (c .before .before .before .before .before .before .before .before .before .before .before .before .before .before .before .before .before .before .before .before .before .before .before .before .before .before .before .before .before .before .before .before .before .before .before .before .before .before .before .before .before .before .before .before .before .pre .wide)
 
@@ -57,15 +27,4 @@ pub put-from-44-spec : {M : Type 1} → statement M
 put-from-44-spec =
     tie.close
     (tie.spec
-    put-opt-rgb-requires
-    put-opt-rgb-requires-2
-    put-opt-rgb-requires-3
-    put-opt-u8-requires
-    put-opt-u8-requires-2
-    put-opt-u8-requires-3
-    put-opt-u8-requires-4
-    put-opt-f32-requires
-    put-opt-u8-requires-5
-    put-opt-u8-requires-6
-    same-length
-    returns)
+    (λ c κs. search needs) (λ c κs. search needs) (λ c κs. search needs) (λ c κs. search needs) (λ c κs. search needs) (λ c κs. search needs) (λ c κs. search needs) (λ c κs. search needs) (λ c κs. search needs) (λ c κs. search needs) same-length returns)

@@ -5,33 +5,6 @@ use borrow.Author.Needs.{needs}
 use Rattle.words.proofs.put_from_70.Statement.{statement}
 use Rattle.words.proofs.put_from_70.Tie as tie
 
-put-opt-name-requires : tie.Need-put-opt-name-requires
-put-opt-name-requires c κs = search needs
-
-put-opt-u8-requires : tie.Need-put-opt-u8-requires
-put-opt-u8-requires c κs = search needs
-
-put-opt-u16-requires : tie.Need-put-opt-u16-requires
-put-opt-u16-requires c κs = search needs
-
-put-opt-reset-requires : tie.Need-put-opt-reset-requires
-put-opt-reset-requires c κs = search needs
-
-put-opt-bool-requires : tie.Need-put-opt-bool-requires
-put-opt-bool-requires c κs = search needs
-
-put-opt-bool-requires-2 : tie.Need-put-opt-bool-requires-2
-put-opt-bool-requires-2 c κs = search needs
-
-put-opt-bool-requires-3 : tie.Need-put-opt-bool-requires-3
-put-opt-bool-requires-3 c κs = search needs
-
-put-opt-i32-requires : tie.Need-put-opt-i32-requires
-put-opt-i32-requires c κs = search needs
-
-put-opt-u8-requires-2 : tie.Need-put-opt-u8-requires-2
-put-opt-u8-requires-2 c κs = search needs
-
 same-length : tie.Need-same-length
 same-length c = c .before .before .put-opt-u82 .ensures .clear .wide ∙ sym (c .before .before .before .before .before .before .before .before .before .before .before .before .before .before .before .before .before .before .before .before .before .before .before .before .before .before .before .before .before .before .before .before .before .before .before .before .before .before .before .before .pre .wide)
 
@@ -53,14 +26,4 @@ pub put-from-70-spec : {M : Type 1} → statement M
 put-from-70-spec =
     tie.close
     (tie.spec
-    put-opt-name-requires
-    put-opt-u8-requires
-    put-opt-u16-requires
-    put-opt-reset-requires
-    put-opt-bool-requires
-    put-opt-bool-requires-2
-    put-opt-bool-requires-3
-    put-opt-i32-requires
-    put-opt-u8-requires-2
-    same-length
-    returns)
+    (λ c κs. search needs) (λ c κs. search needs) (λ c κs. search needs) (λ c κs. search needs) (λ c κs. search needs) (λ c κs. search needs) (λ c κs. search needs) (λ c κs. search needs) (λ c κs. search needs) same-length returns)

@@ -5,24 +5,9 @@ use borrow.Author.Needs.{needs}
 use Rattle.words.proofs.put_opt_f32.Statement.{statement}
 use Rattle.words.proofs.put_opt_f32.Tie as tie
 
-enum-told : tie.Need-enum-told
-enum-told c = search needs
-
-enum-known-o : tie.Need-enum-known-o
-enum-known-o c = search needs
-
-word-of-f32-requires : tie.Need-word-of-f32-requires
-word-of-f32-requires c κs = search needs
-
-put2-requires : tie.Need-put2-requires
-put2-requires c κs = search needs
-
 returns : tie.Need-returns
 unfolding optF32
 returns c = rw (c .enum-told .given .1) (absent (c .before .before .before .pre))
-
-same-length : tie.Need-same-length
-same-length c = search needs
 
 returns-2 : tie.Need-returns-2
 unfolding optF32
@@ -32,10 +17,4 @@ pub put-opt-f32-spec : {M : Type 1} → statement M
 put-opt-f32-spec =
     tie.close
     (tie.spec
-    enum-told
-    enum-known-o
-    word-of-f32-requires
-    put2-requires
-    returns
-    same-length
-    returns-2)
+    (λ c. search needs) (λ c. search needs) (λ c κs. search needs) (λ c κs. search needs) returns (λ c. search needs) returns-2)

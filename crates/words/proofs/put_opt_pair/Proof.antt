@@ -5,27 +5,9 @@ use borrow.Author.Needs.{needs}
 use Rattle.words.proofs.put_opt_pair.Statement.{statement}
 use Rattle.words.proofs.put_opt_pair.Tie as tie
 
-enum-told : tie.Need-enum-told
-enum-told c = search needs
-
-enum-known-o : tie.Need-enum-known-o
-enum-known-o c = search needs
-
-word-of-f32-requires : tie.Need-word-of-f32-requires
-word-of-f32-requires c κs = search needs
-
-word-of-f32-requires-2 : tie.Need-word-of-f32-requires-2
-word-of-f32-requires-2 c κs = search needs
-
-put3-requires : tie.Need-put3-requires
-put3-requires c κs = search needs
-
 returns : tie.Need-returns
 unfolding optPair
 returns c = rw (c .enum-told .given .1) (absent (c .before .before .before .pre))
-
-same-length : tie.Need-same-length
-same-length c = search needs
 
 returns-2 : tie.Need-returns-2
 unfolding optPair
@@ -35,11 +17,4 @@ pub put-opt-pair-spec : {M : Type 1} → statement M
 put-opt-pair-spec =
     tie.close
     (tie.spec
-    enum-told
-    enum-known-o
-    word-of-f32-requires
-    word-of-f32-requires-2
-    put3-requires
-    returns
-    same-length
-    returns-2)
+    (λ c. search needs) (λ c. search needs) (λ c κs. search needs) (λ c κs. search needs) (λ c κs. search needs) returns (λ c. search needs) returns-2)

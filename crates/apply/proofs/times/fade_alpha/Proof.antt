@@ -16,9 +16,6 @@ passed-requires c κs =
     let h = not-lt (a .t) (a .t1) (told ltZ (x .t) (x .t1) (c .before .if1 .left)) in
     (ask leZ (x .t1) (x .t) h, ask leZ (x .t) (x .t2) (lt-le (a .t) (a .t2) (told ltZ (x .t) (x .t2) (c .if2 .taken))))
 
-cut-between-requires : tie.Need-cut-between-requires
-cut-between-requires c κs = search needs
-
 returns-2 : tie.Need-returns-2
 unfolding fadeAlpha
 returns-2 c =
@@ -39,9 +36,6 @@ passed-requires-2 c κs =
     let h = not-lt (a .t) (a .t3) (told ltZ (x .t) (x .t3) (c .before .if3 .left)) in
     (ask leZ (x .t3) (x .t) h, ask leZ (x .t) (x .t4) (lt-le (a .t) (a .t4) (told ltZ (x .t) (x .t4) (c .if4 .taken))))
 
-cut-between-requires-2 : tie.Need-cut-between-requires-2
-cut-between-requires-2 c κs = search needs
-
 returns-4 : tie.Need-returns-4
 unfolding fadeAlpha
 returns-4 c =
@@ -59,12 +53,4 @@ pub fade-alpha-spec : {M : Type 1} → statement M
 fade-alpha-spec =
     tie.close
     (tie.spec
-    returns
-    passed-requires
-    cut-between-requires
-    returns-2
-    returns-3
-    passed-requires-2
-    cut-between-requires-2
-    returns-4
-    returns-5)
+    returns passed-requires (λ c κs. search needs) returns-2 returns-3 passed-requires-2 (λ c κs. search needs) returns-4 returns-5)

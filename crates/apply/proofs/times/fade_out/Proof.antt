@@ -15,18 +15,6 @@ returns-2 : tie.Need-returns-2
 unfolding fadeOut ofBits
 returns-2 c = rw (ne-eqb _ _ (c .before .if1 .left), le-leb _ _ (c .if2 .taken))
 
-less-requires : tie.Need-less-requires
-less-requires c κs = search needs
-
-sub-quotient : tie.Need-sub-quotient
-sub-quotient c = search needs
-
-quotient-requires : tie.Need-quotient-requires
-quotient-requires c κs = search needs
-
-clamp-requires : tie.Need-clamp-requires
-clamp-requires c κs = search needs
-
 returns-3 : tie.Need-returns-3
 unfolding fadeOut ofBits
 returns-3 c =
@@ -48,11 +36,4 @@ pub fade-out-spec : {M : Type 1} → statement M
 fade-out-spec =
     tie.close
     (tie.spec
-    returns
-    returns-2
-    less-requires
-    sub-quotient
-    quotient-requires
-    clamp-requires
-    returns-3
-    returns-4)
+    returns returns-2 (λ c κs. search needs) (λ c. search needs) (λ c κs. search needs) (λ c κs. search needs) returns-3 returns-4)

@@ -5,24 +5,9 @@ use borrow.Author.Needs.{needs}
 use Rattle.drawing.proofs.machine.letter_turn.Statement.{statement}
 use Rattle.drawing.proofs.machine.letter_turn.Tie as tie
 
-continues-requires : tie.Need-continues-requires
-continues-requires c κs = search needs
-
 returns : tie.Need-returns
 unfolding letterTurn
 returns c = rw (sym (c .before .continues .ensures) ∙ c .if1 .taken) (turn-none _ _ _ (search needs) (search needs))
-
-command-of-requires : tie.Need-command-of-requires
-command-of-requires c κs = search needs
-
-settled-requires : tie.Need-settled-requires
-settled-requires c κs = search needs
-
-command-turn-requires : tie.Need-command-turn-requires
-command-turn-requires c κs = search needs
-
-same-length : tie.Need-same-length
-same-length c = search needs
 
 returns-2 : tie.Need-returns-2
 returns-2 c = letter-turns _ _ _ _ (sym (c .before .before .before .before .before .before .before .continues .ensures) ∙ c .before .before .before .before .before .before .if1 .left) (c .before .before .before .before .before .command-of .ensures) (c .before .before .before .before .settled .ensures) (c .before .before .command-turn .ensures)
@@ -31,10 +16,4 @@ pub letter-turn-spec : {M : Type 1} → statement M
 letter-turn-spec =
     tie.close
     (tie.spec
-    continues-requires
-    returns
-    command-of-requires
-    settled-requires
-    command-turn-requires
-    same-length
-    returns-2)
+    (λ c κs. search needs) returns (λ c κs. search needs) (λ c κs. search needs) (λ c κs. search needs) (λ c. search needs) returns-2)

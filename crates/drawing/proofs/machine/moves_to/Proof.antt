@@ -5,26 +5,11 @@ use borrow.Author.Needs.{needs}
 use Rattle.drawing.proofs.machine.moves_to.Statement.{statement}
 use Rattle.drawing.proofs.machine.moves_to.Tie as tie
 
-read-point-requires : tie.Need-read-point-requires
-read-point-requires c κs = search needs
-
-enum-known-read : tie.Need-enum-known-read
-enum-known-read c = search needs
-
-enum-told : tie.Need-enum-told
-enum-told c = search needs
-
 returns : tie.Need-returns
 returns c = moves-none _ _ (c .before .before .read-point .ensures) (c .enum-told .given .1) (search needs)
 
-close-first-requires : tie.Need-close-first-requires
-close-first-requires c κs = search needs
-
 move-to-requires : tie.Need-move-to-requires
 move-to-requires c κs = let a = c .before .before .before .before .before .before .before .before .before .before .before .args in omega (arith, c .before .before .before .close-first .ensures .count, closing-one (a .closes) (a .pen .opened))
-
-same-length : tie.Need-same-length
-same-length c = search needs
 
 returns-2 : tie.Need-returns-2
 returns-2 c = moves-some _ _ (c .before .before .before .before .before .before .before .before .before .before .before .read-point .ensures) (c .before .before .before .before .before .before .before .before .before .read .given .1) (c .before .before .before .before .before .before .close-first .ensures) (c .before .before .move-to .ensures)
@@ -33,11 +18,4 @@ pub moves-to-spec : {M : Type 1} → statement M
 moves-to-spec =
     tie.close
     (tie.spec
-    read-point-requires
-    enum-known-read
-    enum-told
-    returns
-    close-first-requires
-    move-to-requires
-    same-length
-    returns-2)
+    (λ c κs. search needs) (λ c. search needs) (λ c. search needs) returns (λ c κs. search needs) move-to-requires (λ c. search needs) returns-2)

@@ -3,29 +3,8 @@ use borrow.Author.Needs.{needs}
 use Rattle.drawing.proofs.machine.turn_ground.Statement.{statement}
 use Rattle.drawing.proofs.machine.turn_ground.Tie as tie
 
-enum-known-t : tie.Need-enum-known-t
-enum-known-t c = search needs
-
-command-of-requires : tie.Need-command-of-requires
-command-of-requires c κs = search needs
-
-enum-told : tie.Need-enum-told
-enum-told c = search needs
-
-tail-ground-requires : tie.Need-tail-ground-requires
-tail-ground-requires c κs = search needs
-
 returns : tie.Need-returns
 returns c = λ k pen. rw (c .before .before .before .before .before .t .given .1) (rw (c .tail-ground .ensures) (letter-unknown k pen _ (c .before .before .before .before .before .t .given .0 .0) (cc)))
-
-enum-told-2 : tie.Need-enum-told-2
-enum-told-2 c = search needs
-
-enum-known-t-2 : tie.Need-enum-known-t-2
-enum-known-t-2 c = search needs
-
-enum-told-3 : tie.Need-enum-told-3
-enum-told-3 c = search needs
 
 returns-2 : tie.Need-returns-2
 returns-2 c = λ k pen. rw (c .before .before .before .t .given .1) (letter-known k pen _ _ _ (c .before .command-of .ensures) (c .match2 .keys2))
@@ -43,15 +22,4 @@ pub turn-ground-spec : {M : Type 1} → statement M
 turn-ground-spec =
     tie.close
     (tie.spec
-    enum-known-t
-    command-of-requires
-    enum-told
-    tail-ground-requires
-    returns
-    enum-told-2
-    enum-known-t-2
-    enum-told-3
-    returns-2
-    returns-3
-    returns-4
-    returns-5)
+    (λ c. search needs) (λ c κs. search needs) (λ c. search needs) (λ c κs. search needs) returns (λ c. search needs) (λ c. search needs) (λ c. search needs) returns-2 returns-3 returns-4 returns-5)

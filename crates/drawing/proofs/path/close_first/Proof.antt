@@ -10,14 +10,10 @@ returns c = let a = c .before .before .args in rw (not-true (a .closes) (c .if1 
 returns-2 : tie.Need-returns-2
 returns-2 c = let a = c .before .before .before .args in rw (not-false (a .closes) (c .before .if1 .left), not-true (a .opened) (c .if2 .taken)) (emits-none _ _)
 
-close-requires : tie.Need-close-requires
-close-requires c κs = search needs
-
-same-length : tie.Need-same-length
-same-length c = search needs
-
 returns-3 : tie.Need-returns-3
 returns-3 c = let a = c .before .before .before .before .before .before .before .args in rw (not-false (a .closes) (c .before .before .before .before .before .if1 .left), not-false (a .opened) (c .before .before .before .before .if2 .left)) (c .before .before .close .ensures)
 
 pub close-first-spec : {M : Type 1} → statement M
-close-first-spec = tie.close (tie.spec returns returns-2 close-requires same-length returns-3)
+close-first-spec = tie.close
+    (tie.spec
+    returns returns-2 (λ c κs. search needs) (λ c. search needs) returns-3)

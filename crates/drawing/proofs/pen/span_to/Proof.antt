@@ -17,21 +17,6 @@ span-emits {t} {u} {n} {m} b c d p q r x y z w =
     let e : cubicTo p q r ≡ spanOf b c d = rw (x, y, z) in
     subst (λ (o : PathCommand). Emits t n (o ∷ []) m u) e w
 
-bez-requires : tie.Need-bez-requires
-bez-requires c κs = search needs
-
-bez-requires-2 : tie.Need-bez-requires-2
-bez-requires-2 c κs = search needs
-
-bez-requires-3 : tie.Need-bez-requires-3
-bez-requires-3 c κs = search needs
-
-cubic-to-requires : tie.Need-cubic-to-requires
-cubic-to-requires c κs = search needs
-
-same-length : tie.Need-same-length
-same-length c = search needs
-
 returns : tie.Need-returns
 unfolding ofBits
 returns c = span-emits _ _ _ _ _ _ (c .before .before .before .before .before .before .bez .ensures) (c .before .before .before .before .before .bez2 .ensures) (c .before .before .before .before .bez3 .ensures) (c .before .before .cubic-to .ensures)
@@ -39,4 +24,5 @@ returns c = span-emits _ _ _ _ _ _ (c .before .before .before .before .before .b
 pub span-to-spec : {M : Type 1} → statement M
 span-to-spec =
     tie.close
-    (tie.spec bez-requires bez-requires-2 bez-requires-3 cubic-to-requires same-length returns)
+    (tie.spec
+    (λ c κs. search needs) (λ c κs. search needs) (λ c κs. search needs) (λ c κs. search needs) (λ c. search needs) returns)

@@ -5,26 +5,11 @@ use borrow.Author.Needs.{needs}
 use Rattle.drawing.proofs.points.point_from.Statement.{statement}
 use Rattle.drawing.proofs.points.point_from.Tie as tie
 
-enum-known-t : tie.Need-enum-known-t
-enum-known-t c = search needs
-
 returns : tie.Need-returns
 returns c = let a = c .before .before .args in from-other (a .text .now) (a .t) (a .k) (a .scale) (c .match .keys2)
 
-next-token-requires : tie.Need-next-token-requires
-next-token-requires c κs = search needs
-
-enum-known-second : tie.Need-enum-known-second
-enum-known-second c = search needs
-
-enum-told : tie.Need-enum-told
-enum-told c = search needs
-
 returns-2 : tie.Need-returns-2
 returns-2 c = let a = c .before .before .before .before .before .before .before .args in from-half (a .text .now) (a .t) (a .k) (a .scale) _ (c .before .before .before .before .t .given .1) (c .before .before .next-token .ensures) (c .enum-told .given .1)
-
-enum-known-u : tie.Need-enum-known-u
-enum-known-u c = search needs
 
 returns-3 : tie.Need-returns-3
 returns-3 c = let a = c .before .before .before .before .before .before .before .before .before .args in from-broken (a .text .now) (a .t) (a .k) (a .scale) _ (c .before .before .before .before .before .before .t .given .1) (next-is (c .before .before .before .before .next-token .ensures) (c .before .before .second .given .1)) (c .match3 .keys2)
@@ -37,12 +22,4 @@ pub point-from-spec : {M : Type 1} → statement M
 point-from-spec =
     tie.close
     (tie.spec
-    enum-known-t
-    returns
-    next-token-requires
-    enum-known-second
-    enum-told
-    returns-2
-    enum-known-u
-    returns-3
-    returns-4)
+    (λ c. search needs) returns (λ c κs. search needs) (λ c. search needs) (λ c. search needs) returns-2 (λ c. search needs) returns-3 returns-4)

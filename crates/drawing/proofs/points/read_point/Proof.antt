@@ -4,15 +4,6 @@ use borrow.Author.Needs.{needs}
 use Rattle.drawing.proofs.points.read_point.Statement.{statement}
 use Rattle.drawing.proofs.points.read_point.Tie as tie
 
-next-token-requires : tie.Need-next-token-requires
-next-token-requires c κs = search needs
-
-enum-known-first : tie.Need-enum-known-first
-enum-known-first c = search needs
-
-enum-told : tie.Need-enum-told
-enum-told c = search needs
-
 returns : tie.Need-returns
 returns c = point-end _ (c .before .before .next-token .ensures) (c .enum-told .given .1)
 
@@ -25,4 +16,5 @@ returns-2 c = point-from _ (next-is (c .before .before .before .before .next-tok
 pub read-point-spec : {M : Type 1} → statement M
 read-point-spec =
     tie.close
-    (tie.spec next-token-requires enum-known-first enum-told returns point-from-requires returns-2)
+    (tie.spec
+    (λ c κs. search needs) (λ c. search needs) (λ c. search needs) returns point-from-requires returns-2)
