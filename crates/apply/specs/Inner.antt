@@ -3,6 +3,7 @@ use Prim.Native.Nat.{ℕ, min}
 use mathlib.Core.List.{List, [], _∷_}
 use lib.Dec.{eqb}
 use lib.IntN.{ℤ}
+use lib.Ieee.{Float}
 use lib.ListN.{getD}
 use Rattle.scan.specs.Scan.{pick}
 use Rattle.float.specs.Float.{maxZero, toRadians}
@@ -102,8 +103,11 @@ by kind (x ∷ l) d = let rest = by kind l d in pick (eqb kind (x .0)) (x .1) re
 abbrev pub fadBy : ℤ → ℤ → Record → Always → Always
 fadBy t dur r s = faded s (fadAlpha (r .w1) (r .w2) t dur)
 
+abbrev pub fadeMul : ℕ → ℕ → ℕ → ℕ → ℕ → ℕ → ℕ → ℤ → Float
+fadeMul w1 w2 w3 w4 w5 w6 w7 t = alphaToMul (fadeAlpha (byte w1) (byte w2) (byte w3) (z w4) (z w5) (z w6) (z w7) t)
+
 abbrev pub fadeBy : ℤ → Record → Always → Always
-fadeBy t r s = faded s (alphaToMul (fadeAlpha (byte (r .w1)) (byte (r .w2)) (byte (r .w3)) (z (r .w4)) (z (r .w5)) (z (r .w6)) (z (r .w7)) t))
+fadeBy t r s = faded s (fadeMul (r .w1) (r .w2) (r .w3) (r .w4) (r .w5) (r .w6) (r .w7) t)
 
 abbrev pub alwaysKinds : ℤ → ℤ → Record → Always → List (ℕ × Always)
 alwaysKinds t dur r s =
@@ -125,19 +129,22 @@ unfolding by
 alwaysBy t dur r s = by (r .kind) (alwaysKinds t dur r s) s
 
 -- the place that \move has come to
+abbrev pub movedAt : ℕ → ℕ → ℕ → ℕ → Float → OptPair
+movedAt w1 w2 w3 w4 k = OptPair.Some (mixPair (at (f w1) (f w2)) (at (f w3) (f w4)) k)
+
 abbrev pub movedBy : ℤ → ℤ → Record → OptPair
-movedBy t dur r = OptPair.Some (mixPair (at (f (r .w1)) (f (r .w2))) (at (f (r .w3)) (f (r .w4))) (progressBy (r .w5) (r .w6) (r .w7) t dur))
+movedBy t dur r = movedAt (r .w1) (r .w2) (r .w3) (r .w4) (progressBy (r .w5) (r .w6) (r .w7) t dur)
 
 abbrev pub placesKinds : ℤ → ℤ → Record → Places → List (ℕ × Places)
 placesKinds t dur r s =
     (3, setTranslate s (OptPair.Some (at (f (r .w1)) (f (r .w2))))) ∷
     (4, setTranslate s (movedBy t dur r)) ∷
     (16, setBorder s (axes (maxZero (f (r .w1))))) ∷
-    (17, setBorder s (withX (s .border) (maxZero (f (r .w1))))) ∷
-    (18, setBorder s (withY (s .border) (maxZero (f (r .w1))))) ∷
+    (17, setBorder s (withX (s .border .is) (maxZero (f (r .w1))))) ∷
+    (18, setBorder s (withY (s .border .is) (maxZero (f (r .w1))))) ∷
     (19, setShadow s (axes (maxZero (f (r .w1))))) ∷
-    (20, setShadow s (withX (s .shadow) (f (r .w1)))) ∷
-    (21, setShadow s (withY (s .shadow) (f (r .w1)))) ∷
+    (20, setShadow s (withX (s .shadow .is) (f (r .w1)))) ∷
+    (21, setShadow s (withY (s .shadow .is) (f (r .w1)))) ∷
     []
 
 unfoldable pub placesBy : ℤ → ℤ → Record → Places → Places

@@ -3,8 +3,8 @@ ghost use mathlib.Core.Path.{_≡_};
 ghost use Rattle.float.specs.Float.{toRadians, maxZero};
 ghost use Rattle.tag.specs.Decode.{f};
 ghost use Rattle.state.specs.State.{setScale, setShear};
-ghost use Rattle.state.specs.Apply.{at, hundredth as hundredthOf, faded as fadedBy, allAlphas, aligned as alignedBy, wrapped as wrappedBy};
-ghost use Rattle.apply.specs.Inner.{fadBy, fadeBy, movedBy, resetBy};
+ghost use Rattle.state.specs.Apply.{at, someByte, hundredth as hundredthOf, faded as fadedBy, allAlphas, aligned as alignedBy, wrapped as wrappedBy};
+ghost use Rattle.apply.specs.Inner.{fadBy, fadeMul, movedAt, resetBy};
 
 mod times;
 pub mod values;
@@ -18,6 +18,7 @@ use set::set_wrap_style;
 use state::Alphas;
 use state::Always;
 use state::Line;
+use state::MaybeU8;
 use state::OptPair;
 use state::OptU8;
 use state::Pair;
@@ -49,7 +50,7 @@ pub enum Group {
 // ---- what every state has
 
 // \fad and \fade multiply what there is.
-fn faded(s: Always, m: f32) -> Always
+pub fn faded(s: Always, m: f32) -> Always
     ensures { λ r. ⌜ r ≡ fadedBy s m ⌝ }
 {
     set_alpha_mul(s, s.alpha_mul * m)
@@ -61,17 +62,18 @@ pub fn fad(s: Always, r: Record, t: i32, dur: i32) -> Always
     faded(s, fad_alpha(r.w1, r.w2, t, dur))
 }
 
-pub fn fade(s: Always, r: Record, t: i32) -> Always
-    ensures { λ q. ⌜ q ≡ fadeBy t r s ⌝ }
+// By how much \fade multiplies, by the words of its record: a record that is handed on goes through memory.
+pub fn fade_by(w1: u32, w2: u32, w3: u32, w4: u32, w5: u32, w6: u32, w7: u32, t: i32) -> f32
+    ensures { λ q. ⌜ q ≡ fadeMul w1 w2 w3 w4 w5 w6 w7 t ⌝ }
 {
-    let a1 = byte(r.w1);
-    let a2 = byte(r.w2);
-    let a3 = byte(r.w3);
-    let t1 = float::of_word(r.w4);
-    let t2 = float::of_word(r.w5);
-    let t3 = float::of_word(r.w6);
-    let t4 = float::of_word(r.w7);
-    faded(s, alpha_to_mul(fade_alpha(a1, a2, a3, t1, t2, t3, t4, t)))
+    let a1 = byte(w1);
+    let a2 = byte(w2);
+    let a3 = byte(w3);
+    let t1 = float::of_word(w4);
+    let t2 = float::of_word(w5);
+    let t3 = float::of_word(w6);
+    let t4 = float::of_word(w7);
+    alpha_to_mul(fade_alpha(a1, a2, a3, t1, t2, t3, t4, t))
 }
 
 // percent / 100.0
@@ -127,24 +129,31 @@ pub fn above_zero(w: u32) -> f32
 
 // ---- places, clips, sizes
 
-pub fn moved(r: Record, t: i32, dur: i32) -> OptPair
-    ensures { λ q. ⌜ q ≡ movedBy t dur r ⌝ }
+pub fn moved(w1: u32, w2: u32, w3: u32, w4: u32, k: f32) -> OptPair
+    ensures { λ q. ⌜ q ≡ movedAt w1 w2 w3 w4 k ⌝ }
 {
-    let k = ramp::progress(r.w5, r.w6, r.w7, t, dur);
-    let a = pair(r.w1, r.w2);
-    let b = pair(r.w3, r.w4);
+    let a = pair(w1, w2);
+    let b = pair(w3, w4);
     OptPair::Some(ramp::mix_pair(a, b, k))
 }
 
 // ---- colours and alphas
 
+pub fn alpha(w: u32) -> MaybeU8
+    ensures { λ r. ⌜ r .is ≡ someByte w ⌝ }
+{
+    let is = some_u8(w);
+    MaybeU8 { is }
+}
+
 pub fn all_alphas(a: u32) -> Alphas
     ensures { λ r. ⌜ r ≡ allAlphas a ⌝ }
 {
-    let primary_alpha = some_u8(a);
-    let secondary_alpha = some_u8(a);
-    let outline_alpha = some_u8(a);
-    let shadow_alpha = some_u8(a);
+    let is = some_u8(a);
+    let primary_alpha = MaybeU8 { is };
+    let secondary_alpha = MaybeU8 { is };
+    let outline_alpha = MaybeU8 { is };
+    let shadow_alpha = MaybeU8 { is };
     Alphas {
         primary_alpha,
         secondary_alpha,

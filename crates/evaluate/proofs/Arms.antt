@@ -22,7 +22,7 @@ use Rattle.apply.proofs.Groups.{kind-t}
 use Rattle.apply.proofs.Keys.{Missed, from, past}
 use Rattle.table.specs.Inner.{recordIn, ofKind}
 use Rattle.table.proofs.Slices.{record-first}
-use Rattle.evaluate.specs.Inner.{recordFrom, tagsAt, insideOf, aroundOf}
+use Rattle.evaluate.specs.Inner.{recordFrom, tagsAt, insideOf, innerOf, aroundOf}
 use Rattle.evaluate.proofs.Turns.{Looping, loop-plain, loop-around}
 
 abbrev isT : Group → Bool
@@ -85,3 +85,11 @@ module _ (t dur : ℤ) (ws : List ℕ) (at left : ℕ) (st : RenderState) where
   unfolding aroundOf
   around-is {k = k} {r = r} v i p q x =
       x ∙ ap (λ (z : RenderState). between k st z) (p ∙ ap (λ (m : ℕ). applyTags t dur (tagsAt ws (at + 1) m) st) i) ∙ ap (λ (z : Float). between z st (applyTags t dur (tagsAt ws (at + 1) (insideOf r (left - 1))) st)) q ∙ ap around (v ∙ record-first ws at)
+
+  -- what the tags inside it make, and the mixing, apart
+  pub inner-is : {n : ℕ} {r : Record} {post : RenderState} → r ≡ recordIn ws at → n ≡ insideOf r (left - 1) → post ≡ applyTags t dur (tagsAt ws (at + 1) n) st → post ≡ innerOf t dur ws at left st
+  inner-is {r = r} v i p = p ∙ ap (λ (m : ℕ). applyTags t dur (tagsAt ws (at + 1) m) st) (i ∙ ap (λ (w : Record). insideOf w (left - 1)) (v ∙ record-first ws at))
+
+  pub mixed-is : {k : Float} {r : Record} {post next : RenderState} →
+      r ≡ recordIn ws at → post ≡ innerOf t dur ws at left st → k ≡ factor (timesOf (r .w1) (r .w2) (r .w3)) (f (r .w4)) t dur → next ≡ between k st post → next ≡ aroundOf t dur ws at left st
+  mixed-is {r = r} v p q x = around-is v (ap (λ (w : Record). insideOf w (left - 1)) (sym (v ∙ record-first ws at))) p q x

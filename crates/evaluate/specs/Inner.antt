@@ -24,6 +24,10 @@ tagsAt ws at n = decode (recordsTo n (drop (width * at) ws))
 abbrev pub insideOf : Record → ℕ → ℕ
 insideOf r n = min (holds r) n
 
+-- what the tags inside the T with the index at make of a state, where n records stand from there on
+abbrev pub innerOf : ℤ → ℤ → List ℕ → ℕ → ℕ → RenderState → RenderState
+innerOf t dur ws at n st = applyTags t dur (tagsAt ws (at + 1) (insideOf (recordFrom ws at) (n - 1))) st
+
 -- what the T with the index at does, where n records stand from there on
 unfoldable pub aroundOf : ℤ → ℤ → List ℕ → ℕ → ℕ → RenderState → RenderState
 unfolding factor between applyTags

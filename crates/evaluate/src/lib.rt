@@ -3,11 +3,12 @@ ghost use mathlib.Core.Path.{_≡_};
 ghost use Prim.Native.Nat.{_<_};
 ghost use Rattle.table.specs.Inner.{Inside};
 ghost use Rattle.state.specs.Apply.{applyTags};
-ghost use Rattle.evaluate.specs.Inner.{tagsAt, insideOf, aroundOf};
+ghost use Rattle.evaluate.specs.Inner.{tagsAt, insideOf, innerOf};
 ghost use Rattle.evaluate.specs.Evaluate.{evaluated};
 use apply::values::both;
 use apply::values::byte;
 use apply::values::numpad;
+use apply::values::reset_of;
 use apply::values::some_bool;
 use apply::values::some_f32;
 use apply::values::some_name;
@@ -41,7 +42,7 @@ pub fn inside(r: Record, n: usize) -> usize
 
 // The T at the index `at`, with `left` records from there on: part of the way from the state a to what the tags inside it make of it. As in
 // the Rust, each group of fields goes over by itself.
-pub fn apply_t(
+fn apply_t(
     table: &[u32],
     at: usize,
     left: usize,
@@ -50,50 +51,15 @@ pub fn apply_t(
     dur: i32,
 ) -> RenderState
     requires { ⌜ (0 < left) × Inside (now table) at left ⌝ }
-    ensures { λ r. ⌜ r ≡ aroundOf t dur (now (table .entry)) at left a ⌝ }
+    ensures { λ r. ⌜ r ≡ innerOf t dur (now (table .entry)) at left a ⌝ }
 {
     let r = table::record_at(table, at);
     let words = table;
-    let b = apply_tags(words, at + 1, inside(r, left - 1), a, t, dur);
-    let k = mix::factor(r.w1, r.w2, r.w3, r.w4, t, dur);
-    let a_always = a.always;
-    let b_always = b.always;
-    let a_places = a.places;
-    let b_places = b.places;
-    let a_clips = a.clips;
-    let b_clips = b.clips;
-    let a_sizes = a.sizes;
-    let b_sizes = b.sizes;
-    let a_colors = a.colors;
-    let b_colors = b.colors;
-    let a_alphas = a.alphas;
-    let b_alphas = b.alphas;
-    let a_line = a.line;
-    let b_line = b.line;
-    let a_font = a.font;
-    let b_font = b.font;
-    let always = mix::mix_always(a_always, b_always, k);
-    let places = mix::mix_places(a_places, b_places, k);
-    let clips = mix::mix_clips(a_clips, b_clips, k);
-    let sizes = mix::mix_sizes(a_sizes, b_sizes, k);
-    let colors = mix::mix_colors(a_colors, b_colors, k);
-    let alphas = mix::mix_alphas(a_alphas, b_alphas, k);
-    let line = mix::mix_line(a_line, b_line, k);
-    let font = mix::mix_font(a_font, b_font, k);
-    RenderState {
-        always,
-        places,
-        clips,
-        sizes,
-        colors,
-        alphas,
-        line,
-        font,
-    }
+    apply_tags(words, at + 1, inside(r, left - 1), a, t, dur)
 }
 
 // The tags of the `count` records from `first` on, one after the other. A plain tag writes one group of the state, in place.
-fn apply_tags(
+pub fn apply_tags(
     table: &[u32],
     first: usize,
     count: usize,
@@ -118,8 +84,9 @@ fn apply_tags(
                 left -= 1;
             }
             2 => {
+                let m = apply::fade_by(r.w1, r.w2, r.w3, r.w4, r.w5, r.w6, r.w7, t);
                 let s = post.always;
-                post.always = apply::fade(s, table::record_at(table, at), t);
+                post.always = apply::faded(s, m);
                 at += 1;
                 left -= 1;
             }
@@ -130,11 +97,9 @@ fn apply_tags(
                 left -= 1;
             }
             4 => {
+                let k = ramp::progress(r.w5, r.w6, r.w7, t, dur);
                 let s = post.places;
-                post.places = set::set_translate(
-                    s,
-                    apply::moved(table::record_at(table, at), t, dur),
-                );
+                post.places = set::set_translate(s, apply::moved(r.w1, r.w2, r.w3, r.w4, k));
                 at += 1;
                 left -= 1;
             }
@@ -212,14 +177,16 @@ fn apply_tags(
             }
             17 => {
                 let s = post.places;
-                let border = s.border;
+                let now = s.border;
+                let border = now.is;
                 post.places = set::set_border(s, with_x(border, apply::above_zero(r.w1)));
                 at += 1;
                 left -= 1;
             }
             18 => {
                 let s = post.places;
-                let border = s.border;
+                let now = s.border;
+                let border = now.is;
                 post.places = set::set_border(s, with_y(border, apply::above_zero(r.w1)));
                 at += 1;
                 left -= 1;
@@ -232,14 +199,16 @@ fn apply_tags(
             }
             20 => {
                 let s = post.places;
-                let shadow = s.shadow;
+                let now = s.shadow;
+                let shadow = now.is;
                 post.places = set::set_shadow(s, with_x(shadow, float::f32_of_word(r.w1)));
                 at += 1;
                 left -= 1;
             }
             21 => {
                 let s = post.places;
-                let shadow = s.shadow;
+                let now = s.shadow;
+                let shadow = now.is;
                 post.places = set::set_shadow(s, with_y(shadow, float::f32_of_word(r.w1)));
                 at += 1;
                 left -= 1;
@@ -298,26 +267,30 @@ fn apply_tags(
                 left -= 1;
             }
             31 => {
-                let s = post.alphas;
-                post.alphas = set::set_primary_alpha(s, some_u8(r.w1));
+                let mut s = post.alphas;
+                s.primary_alpha = apply::alpha(r.w1);
+                post.alphas = s;
                 at += 1;
                 left -= 1;
             }
             32 => {
-                let s = post.alphas;
-                post.alphas = set::set_secondary_alpha(s, some_u8(r.w1));
+                let mut s = post.alphas;
+                s.secondary_alpha = apply::alpha(r.w1);
+                post.alphas = s;
                 at += 1;
                 left -= 1;
             }
             33 => {
-                let s = post.alphas;
-                post.alphas = set::set_outline_alpha(s, some_u8(r.w1));
+                let mut s = post.alphas;
+                s.outline_alpha = apply::alpha(r.w1);
+                post.alphas = s;
                 at += 1;
                 left -= 1;
             }
             34 => {
-                let s = post.alphas;
-                post.alphas = set::set_shadow_alpha(s, some_u8(r.w1));
+                let mut s = post.alphas;
+                s.shadow_alpha = apply::alpha(r.w1);
+                post.alphas = s;
                 at += 1;
                 left -= 1;
             }
@@ -358,7 +331,9 @@ fn apply_tags(
                 left -= 1;
             }
             41 => {
-                post = apply::reset(table::record_at(table, at));
+                post = state::identity();
+                let s = post.line;
+                post.line = set::set_reset_to_style(s, reset_of(r));
                 at += 1;
                 left -= 1;
             }
@@ -408,7 +383,9 @@ fn apply_tags(
             49 => {
                 let n = 1 + inside(r, left - 1);
                 let words = table;
-                post = apply_t(words, at, left, post, t, dur);
+                let b = apply_t(words, at, left, post, t, dur);
+                let k = mix::factor(r.w1, r.w2, r.w3, r.w4, t, dur);
+                post = mix::mix_state(post, b, k);
                 at += n;
                 left -= n;
             }

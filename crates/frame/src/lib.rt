@@ -3,6 +3,7 @@ ghost use Rattle.frame.specs.Frame.{Framed};
 use apply::values::both;
 use apply::values::byte;
 use apply::values::numpad;
+use apply::values::reset_of;
 use apply::values::some_bool;
 use apply::values::some_f32;
 use apply::values::some_name;
@@ -43,8 +44,9 @@ pub fn write_at(table: &[u32], t: i32, dur: i32, state: &mut [u32; 92]) -> Check
                 if !table::fade_fits(r) {
                     return Checked::Bad(Refusal::TableMalformed(at));
                 }
+                let m = apply::fade_by(r.w1, r.w2, r.w3, r.w4, r.w5, r.w6, r.w7, t);
                 let s = post.always;
-                post.always = apply::fade(s, table::record_at(table, at), t);
+                post.always = apply::faded(s, m);
                 at += 1;
             }
             3 => {
@@ -59,11 +61,9 @@ pub fn write_at(table: &[u32], t: i32, dur: i32, state: &mut [u32; 92]) -> Check
                 if !table::move_fits(r) {
                     return Checked::Bad(Refusal::TableMalformed(at));
                 }
+                let k = ramp::progress(r.w5, r.w6, r.w7, t, dur);
                 let s = post.places;
-                post.places = set::set_translate(
-                    s,
-                    apply::moved(table::record_at(table, at), t, dur),
-                );
+                post.places = set::set_translate(s, apply::moved(r.w1, r.w2, r.w3, r.w4, k));
                 at += 1;
             }
             5 => {
@@ -167,7 +167,8 @@ pub fn write_at(table: &[u32], t: i32, dur: i32, state: &mut [u32; 92]) -> Check
                     return Checked::Bad(Refusal::TableMalformed(at));
                 }
                 let s = post.places;
-                let border = s.border;
+                let now = s.border;
+                let border = now.is;
                 post.places = set::set_border(s, with_x(border, apply::above_zero(r.w1)));
                 at += 1;
             }
@@ -176,7 +177,8 @@ pub fn write_at(table: &[u32], t: i32, dur: i32, state: &mut [u32; 92]) -> Check
                     return Checked::Bad(Refusal::TableMalformed(at));
                 }
                 let s = post.places;
-                let border = s.border;
+                let now = s.border;
+                let border = now.is;
                 post.places = set::set_border(s, with_y(border, apply::above_zero(r.w1)));
                 at += 1;
             }
@@ -193,7 +195,8 @@ pub fn write_at(table: &[u32], t: i32, dur: i32, state: &mut [u32; 92]) -> Check
                     return Checked::Bad(Refusal::TableMalformed(at));
                 }
                 let s = post.places;
-                let shadow = s.shadow;
+                let now = s.shadow;
+                let shadow = now.is;
                 post.places = set::set_shadow(s, with_x(shadow, float::f32_of_word(r.w1)));
                 at += 1;
             }
@@ -202,7 +205,8 @@ pub fn write_at(table: &[u32], t: i32, dur: i32, state: &mut [u32; 92]) -> Check
                     return Checked::Bad(Refusal::TableMalformed(at));
                 }
                 let s = post.places;
-                let shadow = s.shadow;
+                let now = s.shadow;
+                let shadow = now.is;
                 post.places = set::set_shadow(s, with_y(shadow, float::f32_of_word(r.w1)));
                 at += 1;
             }
@@ -281,32 +285,36 @@ pub fn write_at(table: &[u32], t: i32, dur: i32, state: &mut [u32; 92]) -> Check
                 if !table::number_fits(r, 0, 255) {
                     return Checked::Bad(Refusal::TableMalformed(at));
                 }
-                let s = post.alphas;
-                post.alphas = set::set_primary_alpha(s, some_u8(r.w1));
+                let mut s = post.alphas;
+                s.primary_alpha = apply::alpha(r.w1);
+                post.alphas = s;
                 at += 1;
             }
             32 => {
                 if !table::number_fits(r, 0, 255) {
                     return Checked::Bad(Refusal::TableMalformed(at));
                 }
-                let s = post.alphas;
-                post.alphas = set::set_secondary_alpha(s, some_u8(r.w1));
+                let mut s = post.alphas;
+                s.secondary_alpha = apply::alpha(r.w1);
+                post.alphas = s;
                 at += 1;
             }
             33 => {
                 if !table::number_fits(r, 0, 255) {
                     return Checked::Bad(Refusal::TableMalformed(at));
                 }
-                let s = post.alphas;
-                post.alphas = set::set_outline_alpha(s, some_u8(r.w1));
+                let mut s = post.alphas;
+                s.outline_alpha = apply::alpha(r.w1);
+                post.alphas = s;
                 at += 1;
             }
             34 => {
                 if !table::number_fits(r, 0, 255) {
                     return Checked::Bad(Refusal::TableMalformed(at));
                 }
-                let s = post.alphas;
-                post.alphas = set::set_shadow_alpha(s, some_u8(r.w1));
+                let mut s = post.alphas;
+                s.shadow_alpha = apply::alpha(r.w1);
+                post.alphas = s;
                 at += 1;
             }
             35 => {
@@ -361,7 +369,9 @@ pub fn write_at(table: &[u32], t: i32, dur: i32, state: &mut [u32; 92]) -> Check
                 if !table::reset_fits(r) {
                     return Checked::Bad(Refusal::TableMalformed(at));
                 }
-                post = apply::reset(table::record_at(table, at));
+                post = state::identity();
+                let s = post.line;
+                post.line = set::set_reset_to_style(s, reset_of(r));
                 at += 1;
             }
             42 => {
@@ -427,9 +437,11 @@ pub fn write_at(table: &[u32], t: i32, dur: i32, state: &mut [u32; 92]) -> Check
                 if let Checked::Bad(x) = table::t_fault(words, at, left, r) {
                     return Checked::Bad(x);
                 }
-                let n = 1 + evaluate::inside(r, left - 1);
-                post = evaluate::apply_t(words, at, left, post, t, dur);
-                at += n;
+                let n = evaluate::inside(r, left - 1);
+                let b = evaluate::apply_tags(words, at + 1, n, post, t, dur);
+                let k = mix::factor(r.w1, r.w2, r.w3, r.w4, t, dur);
+                post = mix::mix_state(post, b, k);
+                at += 1 + n;
             }
             _ => {
                 return Checked::Bad(Refusal::TableMalformed(at));

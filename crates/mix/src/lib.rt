@@ -9,11 +9,17 @@ use state::Clips;
 use state::Colors;
 use state::Font;
 use state::Line;
+use state::MaybeF32;
 use state::OptF32;
+use state::MaybeI32;
 use state::OptI32;
+use state::MaybePair;
 use state::OptPair;
+use state::MaybeRect;
 use state::OptRect;
+use state::MaybeRgb;
 use state::OptRgb;
+use state::MaybeU8;
 use state::OptU8;
 use state::Pair;
 use state::Places;
@@ -25,7 +31,7 @@ ghost use mathlib.Core.Path.{_≡_};
 ghost use Rattle.scan.specs.Scan.{pick};
 ghost use Rattle.tag.specs.Decode.{f, timesOf};
 ghost use Rattle.state.specs.declared.OptPair.{OptPair as Paired};
-ghost use Rattle.state.specs.Mix.{finite as finiteOf, nearZero, accelOf, bent as bentOf, held as heldOf, factor as factorOf, roundBetween, f32Or, i32Or, mixAlphas, mixAlways, mixClips, mixColors, mixF32, mixFont, mixI32, mixLine, mixOptPair, mixOptRect, mixOptRgb, mixPlaces, mixRect, mixRgb, mixSizes, mixStrength, mixU8, pairOr, rectOr, samePair, u8Or};
+ghost use Rattle.state.specs.Mix.{finite as finiteOf, nearZero, accelOf, between, bent as bentOf, held as heldOf, factor as factorOf, roundBetween, f32Or, i32Or, mixAlphas, mixAlways, mixClips, mixColors, mixF32, mixFont, mixI32, mixLine, mixOptPair, mixOptRect, mixOptRgb, mixPlaces, mixRect, mixRgb, mixSizes, mixStrength, mixU8, pairOr, rectOr, samePair, u8Or};
 
 // ---- the factor
 
@@ -315,15 +321,24 @@ pub fn mix_always(a: Always, b: Always, k: f32) -> Always
 pub fn mix_places(a: Places, b: Places, k: f32) -> Places
     ensures { λ r. ⌜ r ≡ mixPlaces a b k ⌝ }
 {
-    let a_translate = a.translate;
-    let b_translate = b.translate;
-    let a_border = a.border;
-    let b_border = b.border;
-    let a_shadow = a.shadow;
-    let b_shadow = b.shadow;
-    let translate = mix_opt_pair(a_translate, b_translate, k);
-    let border = mix_opt_pair(a_border, b_border, k);
-    let shadow = mix_opt_pair(a_shadow, b_shadow, k);
+    let a_translate_is = a.translate;
+    let a_translate = a_translate_is.is;
+    let b_translate_is = b.translate;
+    let b_translate = b_translate_is.is;
+    let a_border_is = a.border;
+    let a_border = a_border_is.is;
+    let b_border_is = b.border;
+    let b_border = b_border_is.is;
+    let a_shadow_is = a.shadow;
+    let a_shadow = a_shadow_is.is;
+    let b_shadow_is = b.shadow;
+    let b_shadow = b_shadow_is.is;
+    let translate_is = mix_opt_pair(a_translate, b_translate, k);
+    let translate = MaybePair { is: translate_is };
+    let border_is = mix_opt_pair(a_border, b_border, k);
+    let border = MaybePair { is: border_is };
+    let shadow_is = mix_opt_pair(a_shadow, b_shadow, k);
+    let shadow = MaybePair { is: shadow_is };
     Places {
         translate,
         border,
@@ -334,12 +349,18 @@ pub fn mix_places(a: Places, b: Places, k: f32) -> Places
 pub fn mix_clips(a: Clips, b: Clips, k: f32) -> Clips
     ensures { λ r. ⌜ r ≡ mixClips a b k ⌝ }
 {
-    let a_clip = a.clip_rect;
-    let b_clip = b.clip_rect;
-    let a_iclip = a.iclip_rect;
-    let b_iclip = b.iclip_rect;
-    let clip_rect = mix_opt_rect(a_clip, b_clip, k);
-    let iclip_rect = mix_opt_rect(a_iclip, b_iclip, k);
+    let a_clip_is = a.clip_rect;
+    let a_clip = a_clip_is.is;
+    let b_clip_is = b.clip_rect;
+    let b_clip = b_clip_is.is;
+    let a_iclip_is = a.iclip_rect;
+    let a_iclip = a_iclip_is.is;
+    let b_iclip_is = b.iclip_rect;
+    let b_iclip = b_iclip_is.is;
+    let clip_rect_is = mix_opt_rect(a_clip, b_clip, k);
+    let clip_rect = MaybeRect { is: clip_rect_is };
+    let iclip_rect_is = mix_opt_rect(a_iclip, b_iclip, k);
+    let iclip_rect = MaybeRect { is: iclip_rect_is };
     Clips {
         clip_rect,
         iclip_rect,
@@ -349,15 +370,24 @@ pub fn mix_clips(a: Clips, b: Clips, k: f32) -> Clips
 pub fn mix_sizes(a: Sizes, b: Sizes, k: f32) -> Sizes
     ensures { λ r. ⌜ r ≡ mixSizes a b k ⌝ }
 {
-    let a_size = a.font_size;
-    let b_size = b.font_size;
-    let a_spacing = a.letter_spacing;
-    let b_spacing = b.letter_spacing;
-    let a_offset = a.drawing_baseline_offset;
-    let b_offset = b.drawing_baseline_offset;
-    let font_size = mix_opt_f32(a_size, b_size, k);
-    let letter_spacing = mix_opt_f32(a_spacing, b_spacing, k);
-    let drawing_baseline_offset = mix_opt_i32(a_offset, b_offset, k);
+    let a_size_is = a.font_size;
+    let a_size = a_size_is.is;
+    let b_size_is = b.font_size;
+    let b_size = b_size_is.is;
+    let a_spacing_is = a.letter_spacing;
+    let a_spacing = a_spacing_is.is;
+    let b_spacing_is = b.letter_spacing;
+    let b_spacing = b_spacing_is.is;
+    let a_offset_is = a.drawing_baseline_offset;
+    let a_offset = a_offset_is.is;
+    let b_offset_is = b.drawing_baseline_offset;
+    let b_offset = b_offset_is.is;
+    let font_size_is = mix_opt_f32(a_size, b_size, k);
+    let font_size = MaybeF32 { is: font_size_is };
+    let letter_spacing_is = mix_opt_f32(a_spacing, b_spacing, k);
+    let letter_spacing = MaybeF32 { is: letter_spacing_is };
+    let drawing_baseline_offset_is = mix_opt_i32(a_offset, b_offset, k);
+    let drawing_baseline_offset = MaybeI32 { is: drawing_baseline_offset_is };
     Sizes {
         font_size,
         letter_spacing,
@@ -368,18 +398,30 @@ pub fn mix_sizes(a: Sizes, b: Sizes, k: f32) -> Sizes
 pub fn mix_colors(a: Colors, b: Colors, k: f32) -> Colors
     ensures { λ r. ⌜ r ≡ mixColors a b k ⌝ }
 {
-    let a1 = a.primary_color;
-    let b1 = b.primary_color;
-    let a2 = a.secondary_color;
-    let b2 = b.secondary_color;
-    let a3 = a.outline_color;
-    let b3 = b.outline_color;
-    let a4 = a.shadow_color;
-    let b4 = b.shadow_color;
-    let primary_color = mix_opt_rgb(a1, b1, k);
-    let secondary_color = mix_opt_rgb(a2, b2, k);
-    let outline_color = mix_opt_rgb(a3, b3, k);
-    let shadow_color = mix_opt_rgb(a4, b4, k);
+    let a1_is = a.primary_color;
+    let a1 = a1_is.is;
+    let b1_is = b.primary_color;
+    let b1 = b1_is.is;
+    let a2_is = a.secondary_color;
+    let a2 = a2_is.is;
+    let b2_is = b.secondary_color;
+    let b2 = b2_is.is;
+    let a3_is = a.outline_color;
+    let a3 = a3_is.is;
+    let b3_is = b.outline_color;
+    let b3 = b3_is.is;
+    let a4_is = a.shadow_color;
+    let a4 = a4_is.is;
+    let b4_is = b.shadow_color;
+    let b4 = b4_is.is;
+    let primary_color_is = mix_opt_rgb(a1, b1, k);
+    let primary_color = MaybeRgb { is: primary_color_is };
+    let secondary_color_is = mix_opt_rgb(a2, b2, k);
+    let secondary_color = MaybeRgb { is: secondary_color_is };
+    let outline_color_is = mix_opt_rgb(a3, b3, k);
+    let outline_color = MaybeRgb { is: outline_color_is };
+    let shadow_color_is = mix_opt_rgb(a4, b4, k);
+    let shadow_color = MaybeRgb { is: shadow_color_is };
     Colors {
         primary_color,
         secondary_color,
@@ -391,18 +433,30 @@ pub fn mix_colors(a: Colors, b: Colors, k: f32) -> Colors
 pub fn mix_alphas(a: Alphas, b: Alphas, k: f32) -> Alphas
     ensures { λ r. ⌜ r ≡ mixAlphas a b k ⌝ }
 {
-    let a1 = a.primary_alpha;
-    let b1 = b.primary_alpha;
-    let a2 = a.secondary_alpha;
-    let b2 = b.secondary_alpha;
-    let a3 = a.outline_alpha;
-    let b3 = b.outline_alpha;
-    let a4 = a.shadow_alpha;
-    let b4 = b.shadow_alpha;
-    let primary_alpha = mix_opt_u8(a1, b1, k);
-    let secondary_alpha = mix_opt_u8(a2, b2, k);
-    let outline_alpha = mix_opt_u8(a3, b3, k);
-    let shadow_alpha = mix_opt_u8(a4, b4, k);
+    let a1_is = a.primary_alpha;
+    let a1 = a1_is.is;
+    let b1_is = b.primary_alpha;
+    let b1 = b1_is.is;
+    let a2_is = a.secondary_alpha;
+    let a2 = a2_is.is;
+    let b2_is = b.secondary_alpha;
+    let b2 = b2_is.is;
+    let a3_is = a.outline_alpha;
+    let a3 = a3_is.is;
+    let b3_is = b.outline_alpha;
+    let b3 = b3_is.is;
+    let a4_is = a.shadow_alpha;
+    let a4 = a4_is.is;
+    let b4_is = b.shadow_alpha;
+    let b4 = b4_is.is;
+    let primary_alpha_is = mix_opt_u8(a1, b1, k);
+    let primary_alpha = MaybeU8 { is: primary_alpha_is };
+    let secondary_alpha_is = mix_opt_u8(a2, b2, k);
+    let secondary_alpha = MaybeU8 { is: secondary_alpha_is };
+    let outline_alpha_is = mix_opt_u8(a3, b3, k);
+    let outline_alpha = MaybeU8 { is: outline_alpha_is };
+    let shadow_alpha_is = mix_opt_u8(a4, b4, k);
+    let shadow_alpha = MaybeU8 { is: shadow_alpha_is };
     Alphas {
         primary_alpha,
         secondary_alpha,
@@ -436,9 +490,12 @@ pub fn mix_line(a: Line, b: Line, k: f32) -> Line
     ensures { λ r. ⌜ r ≡ mixLine a b k ⌝ }
 {
     if k > 0.0 {
-        let a_pivot = a.pivot;
-        let b_pivot = b.pivot;
-        let pivot = kept_pivot(a_pivot, b_pivot);
+        let a_pivot_is = a.pivot;
+        let a_pivot = a_pivot_is.is;
+        let b_pivot_is = b.pivot;
+        let b_pivot = b_pivot_is.is;
+        let pivot_is = kept_pivot(a_pivot, b_pivot);
+        let pivot = MaybePair { is: pivot_is };
         let clip_drawing = b.clip_drawing;
         let iclip_drawing = b.iclip_drawing;
         let wrap_style = b.wrap_style;
@@ -463,4 +520,44 @@ pub fn mix_font(a: Font, b: Font, k: f32) -> Font
     ensures { λ r. ⌜ r ≡ mixFont a b k ⌝ }
 {
     if k > 0.0 { b } else { a }
+}
+
+// The state that stands k of the way from a to b, each group of fields by itself.
+pub fn mix_state(a: RenderState, b: RenderState, k: f32) -> RenderState
+    ensures { λ r. ⌜ r ≡ between k a b ⌝ }
+{
+    let a_always = a.always;
+    let b_always = b.always;
+    let a_places = a.places;
+    let b_places = b.places;
+    let a_clips = a.clips;
+    let b_clips = b.clips;
+    let a_sizes = a.sizes;
+    let b_sizes = b.sizes;
+    let a_colors = a.colors;
+    let b_colors = b.colors;
+    let a_alphas = a.alphas;
+    let b_alphas = b.alphas;
+    let a_line = a.line;
+    let b_line = b.line;
+    let a_font = a.font;
+    let b_font = b.font;
+    let always = mix_always(a_always, b_always, k);
+    let places = mix_places(a_places, b_places, k);
+    let clips = mix_clips(a_clips, b_clips, k);
+    let sizes = mix_sizes(a_sizes, b_sizes, k);
+    let colors = mix_colors(a_colors, b_colors, k);
+    let alphas = mix_alphas(a_alphas, b_alphas, k);
+    let line = mix_line(a_line, b_line, k);
+    let font = mix_font(a_font, b_font, k);
+    RenderState {
+        always,
+        places,
+        clips,
+        sizes,
+        colors,
+        alphas,
+        line,
+        font,
+    }
 }

@@ -29,13 +29,13 @@ use Rattle.reset.specs.Reset.{Leaves}
 
 -- ---- a record that is no T
 
-aligned-keeps : (s : Line) (n : ℕ) → aligned s n .«reset_to_style» ≡ s .«reset_to_style»
+aligned-keeps : (s : Line) (n : ℕ) → aligned s n .«reset_to_style» .is ≡ s .«reset_to_style» .is
 unfolding aligned
-aligned-keeps s n = picked (λ (x : Line). x .«reset_to_style» ≡ s .«reset_to_style») (within 1 9 n) _ s refl refl
+aligned-keeps s n = picked (λ (x : Line). x .«reset_to_style» .is ≡ s .«reset_to_style» .is) (within 1 9 n) _ s refl refl
 
-wrapped-keeps : (s : Line) (n : ℕ) → wrapped s n .«reset_to_style» ≡ s .«reset_to_style»
+wrapped-keeps : (s : Line) (n : ℕ) → wrapped s n .«reset_to_style» .is ≡ s .«reset_to_style» .is
 unfolding wrapped
-wrapped-keeps s n = picked (λ (x : Line). x .«reset_to_style» ≡ s .«reset_to_style») (leb n 3) _ s refl refl
+wrapped-keeps s n = picked (λ (x : Line). x .«reset_to_style» .is ≡ s .«reset_to_style» .is) (leb n 3) _ s refl refl
 
 -- what a record makes of s: an R says it anew
 abbrev pub told : Record → OptReset → OptReset

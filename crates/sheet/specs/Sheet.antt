@@ -85,12 +85,12 @@ pub data Row : Type 0 where
 abbrev pub Holds : Row → Type 0
 Holds (kinds text ks) = map (λ (r : Record). r .kind) (encode (tagsIn text)) ≡ ks
 Holds (counted text n) = length (encode (tagsIn text)) ≡ n
-Holds (sizes text dur at) = map (λ (p : ℕ × Float). evaluateAt (pos (p .0)) (pos dur) (tagsIn text) .sizes .«font_size») at ≡ map (λ (p : ℕ × Float). OptF32.Some (p .1)) at
+Holds (sizes text dur at) = map (λ (p : ℕ × Float). evaluateAt (pos (p .0)) (pos dur) (tagsIn text) .sizes .«font_size» .is) at ≡ map (λ (p : ℕ × Float). OptF32.Some (p .1)) at
 Holds (opacities text dur at) = map (λ (p : ℕ × Float). evaluateAt (pos (p .0)) (pos dur) (tagsIn text) .always .«alpha_mul») at ≡ map (λ (p : ℕ × Float). p .1) at
 Holds (marked text dur is) = marks (pos dur) (tagsIn text) ≡ is
 Holds (after text dur at) = map (λ (p : ℕ × Mark). nextMark (pos (p .0)) (pos dur) (tagsIn text)) at ≡ map (λ (p : ℕ × Mark). p .1) at
 Holds (sung text spans) = karaokeSpans (tagsIn text) ≡ spans
-Holds (coloured text r g b) = evaluateAt (pos 0) (pos 0) (tagsIn text) .colors .«primary_color» ≡ OptRgb.Some (record { red = r; green = g; blue = b })
+Holds (coloured text r g b) = evaluateAt (pos 0) (pos 0) (tagsIn text) .colors .«primary_color» .is ≡ OptRgb.Some (record { red = r; green = g; blue = b })
 Holds (drawn text exponent cs) = drawing (bytes text) exponent ≡ cs
 
 -- ---- the rows

@@ -116,7 +116,7 @@ abbrev pub someByte : ℕ → OptU8
 someByte n = OptU8.Some (byte n)
 
 abbrev pub allAlphas : ℕ → Alphas
-allAlphas a = record { «primary_alpha» = someByte a; «secondary_alpha» = someByte a; «outline_alpha» = someByte a; «shadow_alpha» = someByte a }
+allAlphas a = record { «primary_alpha» = record { is = someByte a }; «secondary_alpha» = record { is = someByte a }; «outline_alpha» = record { is = someByte a }; «shadow_alpha» = record { is = someByte a } }
 
 abbrev pub resetOf : Reset → OptReset
 resetOf plain = OptReset.Plain
@@ -166,12 +166,12 @@ applyOwn t dur (Fry x) inner st = withAlways st (setRotateYRadians (st .always) 
 applyOwn t dur (Org x y) inner st = withLine st (setPivot (st .line) (OptPair.Some (at x y)))
 -- \bord, \xbord, \ybord: border, never below 0; one axis alone keeps the other, 0 where there was none
 applyOwn t dur (Bord x) inner st = withPlaces st (setBorder (st .places) (axes (maxZero x)))
-applyOwn t dur (Xbord x) inner st = withPlaces st (setBorder (st .places) (withX (st .places .border) (maxZero x)))
-applyOwn t dur (Ybord x) inner st = withPlaces st (setBorder (st .places) (withY (st .places .border) (maxZero x)))
+applyOwn t dur (Xbord x) inner st = withPlaces st (setBorder (st .places) (withX (st .places .border .is) (maxZero x)))
+applyOwn t dur (Ybord x) inner st = withPlaces st (setBorder (st .places) (withY (st .places .border .is) (maxZero x)))
 -- \shad, \xshad, \yshad: shadow; only \shad is never below 0
 applyOwn t dur (Shad x) inner st = withPlaces st (setShadow (st .places) (axes (maxZero x)))
-applyOwn t dur (Xshad x) inner st = withPlaces st (setShadow (st .places) (withX (st .places .shadow) x))
-applyOwn t dur (Yshad x) inner st = withPlaces st (setShadow (st .places) (withY (st .places .shadow) x))
+applyOwn t dur (Xshad x) inner st = withPlaces st (setShadow (st .places) (withX (st .places .shadow .is) x))
+applyOwn t dur (Yshad x) inner st = withPlaces st (setShadow (st .places) (withY (st .places .shadow .is) x))
 -- \be: edge blur
 applyOwn t dur (Be n) inner st = withAlways st (setBeStrength (st .always) (byte n))
 -- \fax, \fay: shear

@@ -186,36 +186,36 @@ mixAlways a b k = record {
 
 unfoldable pub mixPlaces : Places → Places → Float → Places
 unfolding lerp
-mixPlaces a b k = record { translate = mixOptPair (a .translate) (b .translate) k; border = mixOptPair (a .border) (b .border) k; shadow = mixOptPair (a .shadow) (b .shadow) k }
+mixPlaces a b k = record { translate = record { is = mixOptPair (a .translate .is) (b .translate .is) k }; border = record { is = mixOptPair (a .border .is) (b .border .is) k }; shadow = record { is = mixOptPair (a .shadow .is) (b .shadow .is) k } }
 
 unfoldable pub mixClips : Clips → Clips → Float → Clips
 unfolding lerp
-mixClips a b k = record { «clip_rect» = mixOptRect (a .«clip_rect») (b .«clip_rect») k; «iclip_rect» = mixOptRect (a .«iclip_rect») (b .«iclip_rect») k }
+mixClips a b k = record { «clip_rect» = record { is = mixOptRect (a .«clip_rect» .is) (b .«clip_rect» .is) k }; «iclip_rect» = record { is = mixOptRect (a .«iclip_rect» .is) (b .«iclip_rect» .is) k } }
 
 unfoldable pub mixSizes : Sizes → Sizes → Float → Sizes
 unfolding lerp roundAway
 mixSizes a b k = record {
-  «font_size» = mixF32 (a .«font_size») (b .«font_size») k;
-  «letter_spacing» = mixF32 (a .«letter_spacing») (b .«letter_spacing») k;
-  «drawing_baseline_offset» = mixI32 (a .«drawing_baseline_offset») (b .«drawing_baseline_offset») k;
+  «font_size» = record { is = mixF32 (a .«font_size» .is) (b .«font_size» .is) k };
+  «letter_spacing» = record { is = mixF32 (a .«letter_spacing» .is) (b .«letter_spacing» .is) k };
+  «drawing_baseline_offset» = record { is = mixI32 (a .«drawing_baseline_offset» .is) (b .«drawing_baseline_offset» .is) k };
 }
 
 unfoldable pub mixColors : Colors → Colors → Float → Colors
 unfolding cutBetween
 mixColors a b k = record {
-  «primary_color» = mixOptRgb (a .«primary_color») (b .«primary_color») k;
-  «secondary_color» = mixOptRgb (a .«secondary_color») (b .«secondary_color») k;
-  «outline_color» = mixOptRgb (a .«outline_color») (b .«outline_color») k;
-  «shadow_color» = mixOptRgb (a .«shadow_color») (b .«shadow_color») k;
+  «primary_color» = record { is = mixOptRgb (a .«primary_color» .is) (b .«primary_color» .is) k };
+  «secondary_color» = record { is = mixOptRgb (a .«secondary_color» .is) (b .«secondary_color» .is) k };
+  «outline_color» = record { is = mixOptRgb (a .«outline_color» .is) (b .«outline_color» .is) k };
+  «shadow_color» = record { is = mixOptRgb (a .«shadow_color» .is) (b .«shadow_color» .is) k };
 }
 
 unfoldable pub mixAlphas : Alphas → Alphas → Float → Alphas
 unfolding roundBetween
 mixAlphas a b k = record {
-  «primary_alpha» = mixU8 (a .«primary_alpha») (b .«primary_alpha») k;
-  «secondary_alpha» = mixU8 (a .«secondary_alpha») (b .«secondary_alpha») k;
-  «outline_alpha» = mixU8 (a .«outline_alpha») (b .«outline_alpha») k;
-  «shadow_alpha» = mixU8 (a .«shadow_alpha») (b .«shadow_alpha») k;
+  «primary_alpha» = record { is = mixU8 (a .«primary_alpha» .is) (b .«primary_alpha» .is) k };
+  «secondary_alpha» = record { is = mixU8 (a .«secondary_alpha» .is) (b .«secondary_alpha» .is) k };
+  «outline_alpha» = record { is = mixU8 (a .«outline_alpha» .is) (b .«outline_alpha» .is) k };
+  «shadow_alpha» = record { is = mixU8 (a .«shadow_alpha» .is) (b .«shadow_alpha» .is) k };
 }
 
 -- What is not interpolated is taken over once k is above 0. Where both are the same, as the Rust asks first, it makes no difference which of
@@ -230,7 +230,7 @@ samePair (OptPair.Some p) (OptPair.Some q) = pick (eq (p .x) (q .x)) (eq (p .y) 
 unfoldable pub mixLine : Line → Line → Float → Line
 unfolding lt samePair
 mixLine a b k = pick (lt zero k) (record {
-  pivot = pick (samePair (a .pivot) (b .pivot)) (a .pivot) (b .pivot);
+  pivot = record { is = pick (samePair (a .pivot .is) (b .pivot .is)) (a .pivot .is) (b .pivot .is) };
   «clip_drawing» = b .«clip_drawing»;
   «iclip_drawing» = b .«iclip_drawing»;
   «wrap_style» = b .«wrap_style»;

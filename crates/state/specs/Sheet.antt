@@ -17,7 +17,7 @@ whole n = ofInt binary32 (pos n)
 
 -- the size at t, as bits
 abbrev sizeAt : ℕ → Tags → ℕ
-sizeAt t l = toBits binary32 (f32Or (evaluateAt (pos t) (pos 2000) l .sizes .«font_size») zero)
+sizeAt t l = toBits binary32 (f32Or (evaluateAt (pos t) (pos 2000) l .sizes .«font_size» .is) zero)
 
 abbrev opacityAt : ℕ → Tags → ℕ
 opacityAt t l = toBits binary32 (evaluateAt (pos t) (pos 1000) l .always .«alpha_mul»)
@@ -93,6 +93,6 @@ unfolding quotient toBits ofInt
 times-rounded = refl
 
 -- an alpha inside \t rounds: 255 down to 0 at half is 128
-alpha-rounds : u8Or (evaluateAt (pos 500) (pos 1000) (and (Alpha1 255) (and (T absent one (and (Alpha1 0) none)) none)) .alphas .«primary_alpha») 0 ≡ 128
+alpha-rounds : u8Or (evaluateAt (pos 500) (pos 1000) (and (Alpha1 255) (and (T absent one (and (Alpha1 0) none)) none)) .alphas .«primary_alpha» .is) 0 ≡ 128
 unfolding evaluateAt applyTags applyOwn
 alpha-rounds = refl

@@ -13,6 +13,17 @@ use Rattle.state.specs.declared.OptBool.{OptBool}
 use Rattle.state.specs.declared.OptPart.{OptPart}
 use Rattle.state.specs.declared.OptName.{OptName}
 use Rattle.state.specs.declared.OptReset.{OptReset}
+use Rattle.state.specs.declared.MaybeF32.{MaybeF32}
+use Rattle.state.specs.declared.MaybePair.{MaybePair}
+use Rattle.state.specs.declared.MaybeRect.{MaybeRect}
+use Rattle.state.specs.declared.MaybeRgb.{MaybeRgb}
+use Rattle.state.specs.declared.MaybeU8.{MaybeU8}
+use Rattle.state.specs.declared.MaybeU16.{MaybeU16}
+use Rattle.state.specs.declared.MaybeI32.{MaybeI32}
+use Rattle.state.specs.declared.MaybeBool.{MaybeBool}
+use Rattle.state.specs.declared.MaybePart.{MaybePart}
+use Rattle.state.specs.declared.MaybeName.{MaybeName}
+use Rattle.state.specs.declared.MaybeReset.{MaybeReset}
 use Rattle.state.specs.declared.Pair.{Pair}
 use Rattle.state.specs.declared.Always.{Always}
 use Rattle.state.specs.declared.Places.{Places}
@@ -28,18 +39,18 @@ use Rattle.state.specs.declared.RenderState.{RenderState}
 unfoldable pub identity : RenderState
 identity = record {
   always = record { «alpha_mul» = one; «rotate_radians» = zero; «rotate_x_radians» = zero; «rotate_y_radians» = zero; scale = record { x = one; y = one }; «blur_sigma» = zero; «be_strength» = 0; shear = record { x = zero; y = zero } };
-  places = record { translate = OptPair.None; border = OptPair.None; shadow = OptPair.None };
-  clips = record { «clip_rect» = OptRect.None; «iclip_rect» = OptRect.None };
-  sizes = record { «font_size» = OptF32.None; «letter_spacing» = OptF32.None; «drawing_baseline_offset» = OptI32.None };
-  colors = record { «primary_color» = OptRgb.None; «secondary_color» = OptRgb.None; «outline_color» = OptRgb.None; «shadow_color» = OptRgb.None };
-  alphas = record { «primary_alpha» = OptU8.None; «secondary_alpha» = OptU8.None; «outline_alpha» = OptU8.None; «shadow_alpha» = OptU8.None };
-  line = record { pivot = OptPair.None; «clip_drawing» = OptPart.None; «iclip_drawing» = OptPart.None; «wrap_style» = OptU8.None; alignment = OptU8.None; «reset_to_style» = OptReset.None; «drawing_scale» = OptU8.None };
-  font = record { «font_name» = OptName.None; «font_encoding» = OptU8.None; «bold_weight» = OptU16.None; italic = OptBool.None; underline = OptBool.None; strikeout = OptBool.None };
+  places = record { translate = record { is = OptPair.None }; border = record { is = OptPair.None }; shadow = record { is = OptPair.None } };
+  clips = record { «clip_rect» = record { is = OptRect.None }; «iclip_rect» = record { is = OptRect.None } };
+  sizes = record { «font_size» = record { is = OptF32.None }; «letter_spacing» = record { is = OptF32.None }; «drawing_baseline_offset» = record { is = OptI32.None } };
+  colors = record { «primary_color» = record { is = OptRgb.None }; «secondary_color» = record { is = OptRgb.None }; «outline_color» = record { is = OptRgb.None }; «shadow_color» = record { is = OptRgb.None } };
+  alphas = record { «primary_alpha» = record { is = OptU8.None }; «secondary_alpha» = record { is = OptU8.None }; «outline_alpha» = record { is = OptU8.None }; «shadow_alpha» = record { is = OptU8.None } };
+  line = record { pivot = record { is = OptPair.None }; «clip_drawing» = record { is = OptPart.None }; «iclip_drawing» = record { is = OptPart.None }; «wrap_style» = record { is = OptU8.None }; alignment = record { is = OptU8.None }; «reset_to_style» = record { is = OptReset.None }; «drawing_scale» = record { is = OptU8.None } };
+  font = record { «font_name» = record { is = OptName.None }; «font_encoding» = record { is = OptU8.None }; «bold_weight» = record { is = OptU16.None }; italic = record { is = OptBool.None }; underline = record { is = OptBool.None }; strikeout = record { is = OptBool.None } };
 }
 
 -- what \r left in a state
 abbrev pub resetTo : RenderState → OptReset
-resetTo st = st .line .«reset_to_style»
+resetTo st = st .line .«reset_to_style» .is
 
 -- ---- a state with one group changed, a group with one field changed
 
@@ -92,88 +103,88 @@ abbrev pub setShear : Always → Pair → Always
 setShear s v = record { «alpha_mul» = s .«alpha_mul»; «rotate_radians» = s .«rotate_radians»; «rotate_x_radians» = s .«rotate_x_radians»; «rotate_y_radians» = s .«rotate_y_radians»; scale = s .scale; «blur_sigma» = s .«blur_sigma»; «be_strength» = s .«be_strength»; shear = v }
 
 abbrev pub setTranslate : Places → OptPair → Places
-setTranslate s v = record { translate = v; border = s .border; shadow = s .shadow }
+setTranslate s v = record { translate = record { is = v }; border = s .border; shadow = s .shadow }
 
 abbrev pub setBorder : Places → OptPair → Places
-setBorder s v = record { translate = s .translate; border = v; shadow = s .shadow }
+setBorder s v = record { translate = s .translate; border = record { is = v }; shadow = s .shadow }
 
 abbrev pub setShadow : Places → OptPair → Places
-setShadow s v = record { translate = s .translate; border = s .border; shadow = v }
+setShadow s v = record { translate = s .translate; border = s .border; shadow = record { is = v } }
 
 abbrev pub setClipRect : Clips → OptRect → Clips
-setClipRect s v = record { «clip_rect» = v; «iclip_rect» = s .«iclip_rect» }
+setClipRect s v = record { «clip_rect» = record { is = v }; «iclip_rect» = s .«iclip_rect» }
 
 abbrev pub setIclipRect : Clips → OptRect → Clips
-setIclipRect s v = record { «clip_rect» = s .«clip_rect»; «iclip_rect» = v }
+setIclipRect s v = record { «clip_rect» = s .«clip_rect»; «iclip_rect» = record { is = v } }
 
 abbrev pub setFontSize : Sizes → OptF32 → Sizes
-setFontSize s v = record { «font_size» = v; «letter_spacing» = s .«letter_spacing»; «drawing_baseline_offset» = s .«drawing_baseline_offset» }
+setFontSize s v = record { «font_size» = record { is = v }; «letter_spacing» = s .«letter_spacing»; «drawing_baseline_offset» = s .«drawing_baseline_offset» }
 
 abbrev pub setLetterSpacing : Sizes → OptF32 → Sizes
-setLetterSpacing s v = record { «font_size» = s .«font_size»; «letter_spacing» = v; «drawing_baseline_offset» = s .«drawing_baseline_offset» }
+setLetterSpacing s v = record { «font_size» = s .«font_size»; «letter_spacing» = record { is = v }; «drawing_baseline_offset» = s .«drawing_baseline_offset» }
 
 abbrev pub setDrawingBaselineOffset : Sizes → OptI32 → Sizes
-setDrawingBaselineOffset s v = record { «font_size» = s .«font_size»; «letter_spacing» = s .«letter_spacing»; «drawing_baseline_offset» = v }
+setDrawingBaselineOffset s v = record { «font_size» = s .«font_size»; «letter_spacing» = s .«letter_spacing»; «drawing_baseline_offset» = record { is = v } }
 
 abbrev pub setPrimaryColor : Colors → OptRgb → Colors
-setPrimaryColor s v = record { «primary_color» = v; «secondary_color» = s .«secondary_color»; «outline_color» = s .«outline_color»; «shadow_color» = s .«shadow_color» }
+setPrimaryColor s v = record { «primary_color» = record { is = v }; «secondary_color» = s .«secondary_color»; «outline_color» = s .«outline_color»; «shadow_color» = s .«shadow_color» }
 
 abbrev pub setSecondaryColor : Colors → OptRgb → Colors
-setSecondaryColor s v = record { «primary_color» = s .«primary_color»; «secondary_color» = v; «outline_color» = s .«outline_color»; «shadow_color» = s .«shadow_color» }
+setSecondaryColor s v = record { «primary_color» = s .«primary_color»; «secondary_color» = record { is = v }; «outline_color» = s .«outline_color»; «shadow_color» = s .«shadow_color» }
 
 abbrev pub setOutlineColor : Colors → OptRgb → Colors
-setOutlineColor s v = record { «primary_color» = s .«primary_color»; «secondary_color» = s .«secondary_color»; «outline_color» = v; «shadow_color» = s .«shadow_color» }
+setOutlineColor s v = record { «primary_color» = s .«primary_color»; «secondary_color» = s .«secondary_color»; «outline_color» = record { is = v }; «shadow_color» = s .«shadow_color» }
 
 abbrev pub setShadowColor : Colors → OptRgb → Colors
-setShadowColor s v = record { «primary_color» = s .«primary_color»; «secondary_color» = s .«secondary_color»; «outline_color» = s .«outline_color»; «shadow_color» = v }
+setShadowColor s v = record { «primary_color» = s .«primary_color»; «secondary_color» = s .«secondary_color»; «outline_color» = s .«outline_color»; «shadow_color» = record { is = v } }
 
 abbrev pub setPrimaryAlpha : Alphas → OptU8 → Alphas
-setPrimaryAlpha s v = record { «primary_alpha» = v; «secondary_alpha» = s .«secondary_alpha»; «outline_alpha» = s .«outline_alpha»; «shadow_alpha» = s .«shadow_alpha» }
+setPrimaryAlpha s v = record { «primary_alpha» = record { is = v }; «secondary_alpha» = s .«secondary_alpha»; «outline_alpha» = s .«outline_alpha»; «shadow_alpha» = s .«shadow_alpha» }
 
 abbrev pub setSecondaryAlpha : Alphas → OptU8 → Alphas
-setSecondaryAlpha s v = record { «primary_alpha» = s .«primary_alpha»; «secondary_alpha» = v; «outline_alpha» = s .«outline_alpha»; «shadow_alpha» = s .«shadow_alpha» }
+setSecondaryAlpha s v = record { «primary_alpha» = s .«primary_alpha»; «secondary_alpha» = record { is = v }; «outline_alpha» = s .«outline_alpha»; «shadow_alpha» = s .«shadow_alpha» }
 
 abbrev pub setOutlineAlpha : Alphas → OptU8 → Alphas
-setOutlineAlpha s v = record { «primary_alpha» = s .«primary_alpha»; «secondary_alpha» = s .«secondary_alpha»; «outline_alpha» = v; «shadow_alpha» = s .«shadow_alpha» }
+setOutlineAlpha s v = record { «primary_alpha» = s .«primary_alpha»; «secondary_alpha» = s .«secondary_alpha»; «outline_alpha» = record { is = v }; «shadow_alpha» = s .«shadow_alpha» }
 
 abbrev pub setShadowAlpha : Alphas → OptU8 → Alphas
-setShadowAlpha s v = record { «primary_alpha» = s .«primary_alpha»; «secondary_alpha» = s .«secondary_alpha»; «outline_alpha» = s .«outline_alpha»; «shadow_alpha» = v }
+setShadowAlpha s v = record { «primary_alpha» = s .«primary_alpha»; «secondary_alpha» = s .«secondary_alpha»; «outline_alpha» = s .«outline_alpha»; «shadow_alpha» = record { is = v } }
 
 abbrev pub setPivot : Line → OptPair → Line
-setPivot s v = record { pivot = v; «clip_drawing» = s .«clip_drawing»; «iclip_drawing» = s .«iclip_drawing»; «wrap_style» = s .«wrap_style»; alignment = s .alignment; «reset_to_style» = s .«reset_to_style»; «drawing_scale» = s .«drawing_scale» }
+setPivot s v = record { pivot = record { is = v }; «clip_drawing» = s .«clip_drawing»; «iclip_drawing» = s .«iclip_drawing»; «wrap_style» = s .«wrap_style»; alignment = s .alignment; «reset_to_style» = s .«reset_to_style»; «drawing_scale» = s .«drawing_scale» }
 
 abbrev pub setClipDrawing : Line → OptPart → Line
-setClipDrawing s v = record { pivot = s .pivot; «clip_drawing» = v; «iclip_drawing» = s .«iclip_drawing»; «wrap_style» = s .«wrap_style»; alignment = s .alignment; «reset_to_style» = s .«reset_to_style»; «drawing_scale» = s .«drawing_scale» }
+setClipDrawing s v = record { pivot = s .pivot; «clip_drawing» = record { is = v }; «iclip_drawing» = s .«iclip_drawing»; «wrap_style» = s .«wrap_style»; alignment = s .alignment; «reset_to_style» = s .«reset_to_style»; «drawing_scale» = s .«drawing_scale» }
 
 abbrev pub setIclipDrawing : Line → OptPart → Line
-setIclipDrawing s v = record { pivot = s .pivot; «clip_drawing» = s .«clip_drawing»; «iclip_drawing» = v; «wrap_style» = s .«wrap_style»; alignment = s .alignment; «reset_to_style» = s .«reset_to_style»; «drawing_scale» = s .«drawing_scale» }
+setIclipDrawing s v = record { pivot = s .pivot; «clip_drawing» = s .«clip_drawing»; «iclip_drawing» = record { is = v }; «wrap_style» = s .«wrap_style»; alignment = s .alignment; «reset_to_style» = s .«reset_to_style»; «drawing_scale» = s .«drawing_scale» }
 
 abbrev pub setWrapStyle : Line → OptU8 → Line
-setWrapStyle s v = record { pivot = s .pivot; «clip_drawing» = s .«clip_drawing»; «iclip_drawing» = s .«iclip_drawing»; «wrap_style» = v; alignment = s .alignment; «reset_to_style» = s .«reset_to_style»; «drawing_scale» = s .«drawing_scale» }
+setWrapStyle s v = record { pivot = s .pivot; «clip_drawing» = s .«clip_drawing»; «iclip_drawing» = s .«iclip_drawing»; «wrap_style» = record { is = v }; alignment = s .alignment; «reset_to_style» = s .«reset_to_style»; «drawing_scale» = s .«drawing_scale» }
 
 abbrev pub setAlignment : Line → OptU8 → Line
-setAlignment s v = record { pivot = s .pivot; «clip_drawing» = s .«clip_drawing»; «iclip_drawing» = s .«iclip_drawing»; «wrap_style» = s .«wrap_style»; alignment = v; «reset_to_style» = s .«reset_to_style»; «drawing_scale» = s .«drawing_scale» }
+setAlignment s v = record { pivot = s .pivot; «clip_drawing» = s .«clip_drawing»; «iclip_drawing» = s .«iclip_drawing»; «wrap_style» = s .«wrap_style»; alignment = record { is = v }; «reset_to_style» = s .«reset_to_style»; «drawing_scale» = s .«drawing_scale» }
 
 abbrev pub setResetToStyle : Line → OptReset → Line
-setResetToStyle s v = record { pivot = s .pivot; «clip_drawing» = s .«clip_drawing»; «iclip_drawing» = s .«iclip_drawing»; «wrap_style» = s .«wrap_style»; alignment = s .alignment; «reset_to_style» = v; «drawing_scale» = s .«drawing_scale» }
+setResetToStyle s v = record { pivot = s .pivot; «clip_drawing» = s .«clip_drawing»; «iclip_drawing» = s .«iclip_drawing»; «wrap_style» = s .«wrap_style»; alignment = s .alignment; «reset_to_style» = record { is = v }; «drawing_scale» = s .«drawing_scale» }
 
 abbrev pub setDrawingScale : Line → OptU8 → Line
-setDrawingScale s v = record { pivot = s .pivot; «clip_drawing» = s .«clip_drawing»; «iclip_drawing» = s .«iclip_drawing»; «wrap_style» = s .«wrap_style»; alignment = s .alignment; «reset_to_style» = s .«reset_to_style»; «drawing_scale» = v }
+setDrawingScale s v = record { pivot = s .pivot; «clip_drawing» = s .«clip_drawing»; «iclip_drawing» = s .«iclip_drawing»; «wrap_style» = s .«wrap_style»; alignment = s .alignment; «reset_to_style» = s .«reset_to_style»; «drawing_scale» = record { is = v } }
 
 abbrev pub setFontName : Font → OptName → Font
-setFontName s v = record { «font_name» = v; «font_encoding» = s .«font_encoding»; «bold_weight» = s .«bold_weight»; italic = s .italic; underline = s .underline; strikeout = s .strikeout }
+setFontName s v = record { «font_name» = record { is = v }; «font_encoding» = s .«font_encoding»; «bold_weight» = s .«bold_weight»; italic = s .italic; underline = s .underline; strikeout = s .strikeout }
 
 abbrev pub setFontEncoding : Font → OptU8 → Font
-setFontEncoding s v = record { «font_name» = s .«font_name»; «font_encoding» = v; «bold_weight» = s .«bold_weight»; italic = s .italic; underline = s .underline; strikeout = s .strikeout }
+setFontEncoding s v = record { «font_name» = s .«font_name»; «font_encoding» = record { is = v }; «bold_weight» = s .«bold_weight»; italic = s .italic; underline = s .underline; strikeout = s .strikeout }
 
 abbrev pub setBoldWeight : Font → OptU16 → Font
-setBoldWeight s v = record { «font_name» = s .«font_name»; «font_encoding» = s .«font_encoding»; «bold_weight» = v; italic = s .italic; underline = s .underline; strikeout = s .strikeout }
+setBoldWeight s v = record { «font_name» = s .«font_name»; «font_encoding» = s .«font_encoding»; «bold_weight» = record { is = v }; italic = s .italic; underline = s .underline; strikeout = s .strikeout }
 
 abbrev pub setItalic : Font → OptBool → Font
-setItalic s v = record { «font_name» = s .«font_name»; «font_encoding» = s .«font_encoding»; «bold_weight» = s .«bold_weight»; italic = v; underline = s .underline; strikeout = s .strikeout }
+setItalic s v = record { «font_name» = s .«font_name»; «font_encoding» = s .«font_encoding»; «bold_weight» = s .«bold_weight»; italic = record { is = v }; underline = s .underline; strikeout = s .strikeout }
 
 abbrev pub setUnderline : Font → OptBool → Font
-setUnderline s v = record { «font_name» = s .«font_name»; «font_encoding» = s .«font_encoding»; «bold_weight» = s .«bold_weight»; italic = s .italic; underline = v; strikeout = s .strikeout }
+setUnderline s v = record { «font_name» = s .«font_name»; «font_encoding» = s .«font_encoding»; «bold_weight» = s .«bold_weight»; italic = s .italic; underline = record { is = v }; strikeout = s .strikeout }
 
 abbrev pub setStrikeout : Font → OptBool → Font
-setStrikeout s v = record { «font_name» = s .«font_name»; «font_encoding» = s .«font_encoding»; «bold_weight» = s .«bold_weight»; italic = s .italic; underline = s .underline; strikeout = v }
+setStrikeout s v = record { «font_name» = s .«font_name»; «font_encoding» = s .«font_encoding»; «bold_weight» = s .«bold_weight»; italic = s .italic; underline = s .underline; strikeout = record { is = v } }

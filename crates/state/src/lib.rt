@@ -87,6 +87,51 @@ pub enum OptReset {
     Named(Part),
 }
 
+// An option as a field: a struct, since a field that is an enum is not stored to.
+pub struct MaybeF32 {
+    pub is: OptF32,
+}
+
+pub struct MaybePair {
+    pub is: OptPair,
+}
+
+pub struct MaybeRect {
+    pub is: OptRect,
+}
+
+pub struct MaybeRgb {
+    pub is: OptRgb,
+}
+
+pub struct MaybeU8 {
+    pub is: OptU8,
+}
+
+pub struct MaybeU16 {
+    pub is: OptU16,
+}
+
+pub struct MaybeI32 {
+    pub is: OptI32,
+}
+
+pub struct MaybeBool {
+    pub is: OptBool,
+}
+
+pub struct MaybePart {
+    pub is: OptPart,
+}
+
+pub struct MaybeName {
+    pub is: OptName,
+}
+
+pub struct MaybeReset {
+    pub is: OptReset,
+}
+
 // What every state has.
 pub struct Always {
     pub alpha_mul: f32,
@@ -100,53 +145,53 @@ pub struct Always {
 }
 
 pub struct Places {
-    pub translate: OptPair,
-    pub border: OptPair,
-    pub shadow: OptPair,
+    pub translate: MaybePair,
+    pub border: MaybePair,
+    pub shadow: MaybePair,
 }
 
 pub struct Clips {
-    pub clip_rect: OptRect,
-    pub iclip_rect: OptRect,
+    pub clip_rect: MaybeRect,
+    pub iclip_rect: MaybeRect,
 }
 
 pub struct Sizes {
-    pub font_size: OptF32,
-    pub letter_spacing: OptF32,
-    pub drawing_baseline_offset: OptI32,
+    pub font_size: MaybeF32,
+    pub letter_spacing: MaybeF32,
+    pub drawing_baseline_offset: MaybeI32,
 }
 
 pub struct Colors {
-    pub primary_color: OptRgb,
-    pub secondary_color: OptRgb,
-    pub outline_color: OptRgb,
-    pub shadow_color: OptRgb,
+    pub primary_color: MaybeRgb,
+    pub secondary_color: MaybeRgb,
+    pub outline_color: MaybeRgb,
+    pub shadow_color: MaybeRgb,
 }
 
 pub struct Alphas {
-    pub primary_alpha: OptU8,
-    pub secondary_alpha: OptU8,
-    pub outline_alpha: OptU8,
-    pub shadow_alpha: OptU8,
+    pub primary_alpha: MaybeU8,
+    pub secondary_alpha: MaybeU8,
+    pub outline_alpha: MaybeU8,
+    pub shadow_alpha: MaybeU8,
 }
 
 pub struct Line {
-    pub pivot: OptPair,
-    pub clip_drawing: OptPart,
-    pub iclip_drawing: OptPart,
-    pub wrap_style: OptU8,
-    pub alignment: OptU8,
-    pub reset_to_style: OptReset,
-    pub drawing_scale: OptU8,
+    pub pivot: MaybePair,
+    pub clip_drawing: MaybePart,
+    pub iclip_drawing: MaybePart,
+    pub wrap_style: MaybeU8,
+    pub alignment: MaybeU8,
+    pub reset_to_style: MaybeReset,
+    pub drawing_scale: MaybeU8,
 }
 
 pub struct Font {
-    pub font_name: OptName,
-    pub font_encoding: OptU8,
-    pub bold_weight: OptU16,
-    pub italic: OptBool,
-    pub underline: OptBool,
-    pub strikeout: OptBool,
+    pub font_name: MaybeName,
+    pub font_encoding: MaybeU8,
+    pub bold_weight: MaybeU16,
+    pub italic: MaybeBool,
+    pub underline: MaybeBool,
+    pub strikeout: MaybeBool,
 }
 
 pub struct RenderState {
@@ -164,6 +209,17 @@ pub struct RenderState {
 pub fn identity() -> RenderState
     ensures { λ r. ⌜ r ≡ noOverride ⌝ }
 {
+    let no_f32 = MaybeF32 { is: OptF32::None };
+    let no_pair = MaybePair { is: OptPair::None };
+    let no_rect = MaybeRect { is: OptRect::None };
+    let no_rgb = MaybeRgb { is: OptRgb::None };
+    let no_u8 = MaybeU8 { is: OptU8::None };
+    let no_u16 = MaybeU16 { is: OptU16::None };
+    let no_i32 = MaybeI32 { is: OptI32::None };
+    let no_bool = MaybeBool { is: OptBool::None };
+    let no_part = MaybePart { is: OptPart::None };
+    let no_name = MaybeName { is: OptName::None };
+    let no_reset = MaybeReset { is: OptReset::None };
     let scale = Pair { x: 1.0, y: 1.0 };
     let shear = Pair { x: 0.0, y: 0.0 };
     let always = Always {
@@ -177,47 +233,47 @@ pub fn identity() -> RenderState
         shear,
     };
     let places = Places {
-        translate: OptPair::None,
-        border: OptPair::None,
-        shadow: OptPair::None,
+        translate: no_pair,
+        border: no_pair,
+        shadow: no_pair,
     };
     let clips = Clips {
-        clip_rect: OptRect::None,
-        iclip_rect: OptRect::None,
+        clip_rect: no_rect,
+        iclip_rect: no_rect,
     };
     let sizes = Sizes {
-        font_size: OptF32::None,
-        letter_spacing: OptF32::None,
-        drawing_baseline_offset: OptI32::None,
+        font_size: no_f32,
+        letter_spacing: no_f32,
+        drawing_baseline_offset: no_i32,
     };
     let colors = Colors {
-        primary_color: OptRgb::None,
-        secondary_color: OptRgb::None,
-        outline_color: OptRgb::None,
-        shadow_color: OptRgb::None,
+        primary_color: no_rgb,
+        secondary_color: no_rgb,
+        outline_color: no_rgb,
+        shadow_color: no_rgb,
     };
     let alphas = Alphas {
-        primary_alpha: OptU8::None,
-        secondary_alpha: OptU8::None,
-        outline_alpha: OptU8::None,
-        shadow_alpha: OptU8::None,
+        primary_alpha: no_u8,
+        secondary_alpha: no_u8,
+        outline_alpha: no_u8,
+        shadow_alpha: no_u8,
     };
     let line = Line {
-        pivot: OptPair::None,
-        clip_drawing: OptPart::None,
-        iclip_drawing: OptPart::None,
-        wrap_style: OptU8::None,
-        alignment: OptU8::None,
-        reset_to_style: OptReset::None,
-        drawing_scale: OptU8::None,
+        pivot: no_pair,
+        clip_drawing: no_part,
+        iclip_drawing: no_part,
+        wrap_style: no_u8,
+        alignment: no_u8,
+        reset_to_style: no_reset,
+        drawing_scale: no_u8,
     };
     let font = Font {
-        font_name: OptName::None,
-        font_encoding: OptU8::None,
-        bold_weight: OptU16::None,
-        italic: OptBool::None,
-        underline: OptBool::None,
-        strikeout: OptBool::None,
+        font_name: no_name,
+        font_encoding: no_u8,
+        bold_weight: no_u16,
+        italic: no_bool,
+        underline: no_bool,
+        strikeout: no_bool,
     };
     RenderState {
         always,

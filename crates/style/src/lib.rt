@@ -99,7 +99,8 @@ pub fn style_at<'a>(st: state::RenderState, block: &'a [u8], own: &'a [u8]) -> P
         refusal::Checked::Bad(r) => refused_place(r),
         refusal::Checked::Good => {
             let line = st.line;
-            let reset = line.reset_to_style;
+            let reset_is = line.reset_to_style;
+            let reset = reset_is.is;
             named_reset(reset, block, own)
         }
     }

@@ -93,47 +93,47 @@ wordsFrom0 st =
     ++ f32 (st .always .«rotate_x_radians»)  -- 2
     ++ f32 (st .always .«rotate_y_radians»)  -- 3
     ++ pair (st .always .scale)  -- 4
-    ++ optPair (st .places .translate)  -- 6
+    ++ optPair (st .places .translate .is)  -- 6
     ++ f32 (st .always .«blur_sigma»)  -- 9
-    ++ optRect (st .clips .«clip_rect»)  -- 10
-    ++ optPart (st .line .«clip_drawing»)  -- 15
+    ++ optRect (st .clips .«clip_rect» .is)  -- 10
+    ++ optPart (st .line .«clip_drawing» .is)  -- 15
 
 abbrev pub wordsFrom18 : RenderState → List ℕ
 wordsFrom18 st =
-    optRgb (st .colors .«primary_color»)  -- 18
-    ++ optF32 (st .sizes .«font_size»)  -- 22
-    ++ optPair (st .line .pivot)  -- 24
-    ++ optPair (st .places .border)  -- 27
-    ++ optPair (st .places .shadow)  -- 30
+    optRgb (st .colors .«primary_color» .is)  -- 18
+    ++ optF32 (st .sizes .«font_size» .is)  -- 22
+    ++ optPair (st .line .pivot .is)  -- 24
+    ++ optPair (st .places .border .is)  -- 27
+    ++ optPair (st .places .shadow .is)  -- 30
     ++ number (st .always .«be_strength»)  -- 33
     ++ pair (st .always .shear)  -- 34
-    ++ optRect (st .clips .«iclip_rect»)  -- 36
-    ++ optPart (st .line .«iclip_drawing»)  -- 41
+    ++ optRect (st .clips .«iclip_rect» .is)  -- 36
+    ++ optPart (st .line .«iclip_drawing» .is)  -- 41
 
 abbrev pub wordsFrom44 : RenderState → List ℕ
 wordsFrom44 st =
-    optRgb (st .colors .«secondary_color»)  -- 44
-    ++ optRgb (st .colors .«outline_color»)  -- 48
-    ++ optRgb (st .colors .«shadow_color»)  -- 52
-    ++ optU8 (st .alphas .«primary_alpha»)  -- 56
-    ++ optU8 (st .alphas .«secondary_alpha»)  -- 58
-    ++ optU8 (st .alphas .«outline_alpha»)  -- 60
-    ++ optU8 (st .alphas .«shadow_alpha»)  -- 62
-    ++ optF32 (st .sizes .«letter_spacing»)  -- 64
-    ++ optU8 (st .line .«wrap_style»)  -- 66
-    ++ optU8 (st .line .alignment)  -- 68
+    optRgb (st .colors .«secondary_color» .is)  -- 44
+    ++ optRgb (st .colors .«outline_color» .is)  -- 48
+    ++ optRgb (st .colors .«shadow_color» .is)  -- 52
+    ++ optU8 (st .alphas .«primary_alpha» .is)  -- 56
+    ++ optU8 (st .alphas .«secondary_alpha» .is)  -- 58
+    ++ optU8 (st .alphas .«outline_alpha» .is)  -- 60
+    ++ optU8 (st .alphas .«shadow_alpha» .is)  -- 62
+    ++ optF32 (st .sizes .«letter_spacing» .is)  -- 64
+    ++ optU8 (st .line .«wrap_style» .is)  -- 66
+    ++ optU8 (st .line .alignment .is)  -- 68
 
 abbrev pub wordsFrom70 : RenderState → List ℕ
 wordsFrom70 st =
-    optName (st .font .«font_name»)  -- 70
-    ++ optU8 (st .font .«font_encoding»)  -- 75
-    ++ optU16 (st .font .«bold_weight»)  -- 77
-    ++ optReset (st .line .«reset_to_style»)  -- 79
-    ++ optBool (st .font .italic)  -- 82
-    ++ optBool (st .font .underline)  -- 84
-    ++ optBool (st .font .strikeout)  -- 86
-    ++ optI32 (st .sizes .«drawing_baseline_offset»)  -- 88
-    ++ optU8 (st .line .«drawing_scale»)  -- 90
+    optName (st .font .«font_name» .is)  -- 70
+    ++ optU8 (st .font .«font_encoding» .is)  -- 75
+    ++ optU16 (st .font .«bold_weight» .is)  -- 77
+    ++ optReset (st .line .«reset_to_style» .is)  -- 79
+    ++ optBool (st .font .italic .is)  -- 82
+    ++ optBool (st .font .underline .is)  -- 84
+    ++ optBool (st .font .strikeout .is)  -- 86
+    ++ optI32 (st .sizes .«drawing_baseline_offset» .is)  -- 88
+    ++ optU8 (st .line .«drawing_scale» .is)  -- 90
 
 unfoldable pub stateWords : RenderState → List ℕ
 stateWords st = wordsFrom0 st ++ wordsFrom18 st ++ wordsFrom44 st ++ wordsFrom70 st

@@ -1,4 +1,3 @@
-use Rattle.ramp.proofs.Ints.{seen}
 use Rattle.apply.proofs.moved.Statement.{statement}
 use Rattle.apply.proofs.moved.Tie as tie
 
@@ -9,5 +8,4 @@ moved-spec =
     (λ c κs. tt)
     (λ c κs. tt)
     (λ c κs. tt)
-    (λ c κs. tt)
-    (λ c. let x = c .before .before .before .before .fits in rw (c .mix-pair .ensures, c .before .pair2 .ensures, c .before .before .pair .ensures, c .before .before .before .progress .ensures, seen (x .t), seen (x .dur))))
+    (λ c. rw (c .mix-pair .ensures, c .before .pair2 .ensures, c .before .before .pair .ensures)))

@@ -14,7 +14,7 @@ use Rattle.apply.specs.Inner.{resetBy}
 use Rattle.apply.proofs.Groups.{nothing-law}
 use Rattle.ramp.proofs.Ints.{answered}
 use Rattle.evaluate.proofs.Turns.{Looping, loop-start, loop-done}
-use Rattle.evaluate.proofs.Arms.{turn-by, turn-kind, no-kind, turn-around, around-is}
+use Rattle.evaluate.proofs.Arms.{turn-by, turn-kind, no-kind, turn-around, inner-is, mixed-is}
 use Prim.Native.Nat.{ℕ, _<_, _≤_, _+_, _-_, _*_}
 use borrow.Fn.Kinds.{In}
 use borrow.Fn.PlainCycle.{Measures, is, falls, and}
@@ -26,7 +26,12 @@ use Rattle.evaluate.proofs.apply_tags.Kinds as apply-tags-kinds
 use Rattle.evaluate.proofs.+apply_t+apply_tags.Lts-apply_tags as apply-tags-lts
 use Rattle.table.proofs.record_at.Reads as record-at-reads
 use Rattle.apply.proofs.fad.Reads as fad-reads
-use Rattle.apply.proofs.fade.Reads as fade-reads
+use Rattle.apply.proofs.fade_by.Reads as fade-by-reads
+use Rattle.apply.proofs.faded.Reads as faded-reads
+use Rattle.ramp.proofs.progress.Reads as progress-reads
+use Rattle.state.proofs.identity.Reads as identity-reads
+use Rattle.apply.proofs.values.reset_of.Reads as reset-of-reads
+use Rattle.set.proofs.set_reset_to_style.Reads as set-reset-to-style-reads
 use Rattle.apply.proofs.values.some_pair.Reads as some-pair-reads
 use Rattle.set.proofs.set_translate.Reads as set-translate-reads
 use Rattle.apply.proofs.moved.Reads as moved-reads
@@ -64,10 +69,7 @@ use Rattle.set.proofs.set_outline_color.Reads as set-outline-color-reads
 use Rattle.set.proofs.set_shadow_color.Reads as set-shadow-color-reads
 use Rattle.apply.proofs.all_alphas.Reads as all-alphas-reads
 use Rattle.apply.proofs.values.some_u8.Reads as some-u8-reads
-use Rattle.set.proofs.set_primary_alpha.Reads as set-primary-alpha-reads
-use Rattle.set.proofs.set_secondary_alpha.Reads as set-secondary-alpha-reads
-use Rattle.set.proofs.set_outline_alpha.Reads as set-outline-alpha-reads
-use Rattle.set.proofs.set_shadow_alpha.Reads as set-shadow-alpha-reads
+use Rattle.apply.proofs.alpha.Reads as alpha-reads
 use Rattle.set.proofs.set_letter_spacing.Reads as set-letter-spacing-reads
 use Rattle.apply.proofs.wrapped.Reads as wrapped-reads
 use Rattle.apply.proofs.aligned.Reads as aligned-reads
@@ -75,7 +77,6 @@ use Rattle.apply.proofs.values.numpad.Reads as numpad-reads
 use Rattle.apply.proofs.values.some_name.Reads as some-name-reads
 use Rattle.set.proofs.set_font_name.Reads as set-font-name-reads
 use Rattle.set.proofs.set_font_encoding.Reads as set-font-encoding-reads
-use Rattle.apply.proofs.reset.Reads as reset-reads
 use Rattle.apply.proofs.values.some_u16.Reads as some-u16-reads
 use Rattle.set.proofs.set_bold_weight.Reads as set-bold-weight-reads
 use Rattle.apply.proofs.values.some_bool.Reads as some-bool-reads
@@ -86,15 +87,8 @@ use Rattle.float.proofs.of_word.Reads as of-word-reads
 use Rattle.set.proofs.set_drawing_baseline_offset.Reads as set-drawing-baseline-offset-reads
 use Rattle.set.proofs.set_drawing_scale.Reads as set-drawing-scale-reads
 use Rattle.evaluate.proofs.inside.Reads as inside-reads
-use Rattle.mix.proofs.mix_always.Reads as mix-always-reads
-use Rattle.mix.proofs.mix_places.Reads as mix-places-reads
-use Rattle.mix.proofs.mix_clips.Reads as mix-clips-reads
-use Rattle.mix.proofs.mix_sizes.Reads as mix-sizes-reads
-use Rattle.mix.proofs.mix_colors.Reads as mix-colors-reads
-use Rattle.mix.proofs.mix_alphas.Reads as mix-alphas-reads
-use Rattle.mix.proofs.mix_line.Reads as mix-line-reads
-use Rattle.mix.proofs.mix_font.Reads as mix-font-reads
 use Rattle.mix.proofs.factor.Reads as factor-reads
+use Rattle.mix.proofs.mix_state.Reads as mix-state-reads
 use Rattle.evaluate.proofs.+apply_t+apply_tags.{statement}
 use Rattle.evaluate.proofs.+apply_t+apply_tags.Tie.{close}
 
@@ -126,24 +120,6 @@ calls-t t = (
   inside-reads.Learnt,
   apply-tags-below t,
   apply-tags.Post,
-  factor-reads.Asked,
-  factor-reads.Learnt,
-  mix-always-reads.Asked,
-  mix-always-reads.Learnt,
-  mix-places-reads.Asked,
-  mix-places-reads.Learnt,
-  mix-clips-reads.Asked,
-  mix-clips-reads.Learnt,
-  mix-sizes-reads.Asked,
-  mix-sizes-reads.Learnt,
-  mix-colors-reads.Asked,
-  mix-colors-reads.Learnt,
-  mix-alphas-reads.Asked,
-  mix-alphas-reads.Learnt,
-  mix-line-reads.Asked,
-  mix-line-reads.Learnt,
-  mix-font-reads.Asked,
-  mix-font-reads.Learnt,
 )
 
 abbrev calls-tags : ℕ → apply-tags-lts.Claims
@@ -152,12 +128,16 @@ calls-tags t = (
   record-at-reads.Learnt,
   fad-reads.Asked,
   fad-reads.Learnt,
-  fade-reads.Asked,
-  fade-reads.Learnt,
+  fade-by-reads.Asked,
+  fade-by-reads.Learnt,
+  faded-reads.Asked,
+  faded-reads.Learnt,
   some-pair-reads.Asked,
   some-pair-reads.Learnt,
   set-translate-reads.Asked,
   set-translate-reads.Learnt,
+  progress-reads.Asked,
+  progress-reads.Learnt,
   moved-reads.Asked,
   moved-reads.Learnt,
   radians-reads.Asked,
@@ -226,16 +206,8 @@ calls-tags t = (
   set-shadow-color-reads.Learnt,
   all-alphas-reads.Asked,
   all-alphas-reads.Learnt,
-  some-u8-reads.Asked,
-  some-u8-reads.Learnt,
-  set-primary-alpha-reads.Asked,
-  set-primary-alpha-reads.Learnt,
-  set-secondary-alpha-reads.Asked,
-  set-secondary-alpha-reads.Learnt,
-  set-outline-alpha-reads.Asked,
-  set-outline-alpha-reads.Learnt,
-  set-shadow-alpha-reads.Asked,
-  set-shadow-alpha-reads.Learnt,
+  alpha-reads.Asked,
+  alpha-reads.Learnt,
   set-letter-spacing-reads.Asked,
   set-letter-spacing-reads.Learnt,
   wrapped-reads.Asked,
@@ -248,10 +220,16 @@ calls-tags t = (
   some-name-reads.Learnt,
   set-font-name-reads.Asked,
   set-font-name-reads.Learnt,
+  some-u8-reads.Asked,
+  some-u8-reads.Learnt,
   set-font-encoding-reads.Asked,
   set-font-encoding-reads.Learnt,
-  reset-reads.Asked,
-  reset-reads.Learnt,
+  identity-reads.Asked,
+  identity-reads.Learnt,
+  reset-of-reads.Asked,
+  reset-of-reads.Learnt,
+  set-reset-to-style-reads.Asked,
+  set-reset-to-style-reads.Learnt,
   some-u16-reads.Asked,
   some-u16-reads.Learnt,
   set-bold-weight-reads.Asked,
@@ -274,6 +252,10 @@ calls-tags t = (
   inside-reads.Learnt,
   apply-t-below t,
   apply-t.Post,
+  factor-reads.Asked,
+  factor-reads.Learnt,
+  mix-state-reads.Asked,
+  mix-state-reads.Learnt,
 )
 
 abbrev apply-tags-Inv-loop : apply-tags-lts.InvT-loop
@@ -283,12 +265,10 @@ abbrev apply-tags-μ-loop : apply-tags-lts.MeasureT-loop
 apply-tags-μ-loop table first count t dur post₀ at₀ left₀ post at left = left
 
 apply-t-returns : (t : ℕ) → apply-t-lts.Need-returns (calls-t t) (apply-t-at t) apply-t.Post
-unfolding between
 apply-t-returns t c =
-    let s = c .before .before .before .before .before .before .before .before .before .before .before .before .before .before .before .before .before .before .before .before .before .before .before .before .before .before .before .before .before in
+    let s = c .before .before .before .before in
     let a = s .args in
-    let r : _≡_ {A = RenderState} (record { always = c .before .before .before .before .before .before .before .mix-always .result; places = c .before .before .before .before .before .before .mix-places .result; clips = c .before .before .before .before .before .mix-clips .result; sizes = c .before .before .before .before .mix-sizes .result; colors = c .before .before .before .mix-colors .result; alphas = c .before .before .mix-alphas .result; line = c .before .mix-line .result; font = c .mix-font .result }) (between (c .before .before .before .before .before .before .before .before .before .before .before .before .before .before .before .before .before .before .before .before .before .before .before .before .factor .result) (a .a) (c .before .before .before .before .before .before .before .before .before .before .before .before .before .before .before .before .before .before .before .before .before .before .before .before .before .apply-tags .result)) = rw (c .mix-font .ensures, c .before .mix-line .ensures, c .before .before .mix-alphas .ensures, c .before .before .before .mix-colors .ensures, c .before .before .before .before .mix-sizes .ensures, c .before .before .before .before .before .mix-clips .ensures, c .before .before .before .before .before .before .mix-places .ensures, c .before .before .before .before .before .before .before .mix-always .ensures) in
-    let e = around-is (toZ w32 (ofZ w32 (a .t))) (toZ w32 (ofZ w32 (a .dur))) (a .table .now) (a .at) (a .left) (a .a) (c .before .before .before .before .before .before .before .before .before .before .before .before .before .before .before .before .before .before .before .before .before .before .before .before .before .before .before .record-at .ensures) (c .before .before .before .before .before .before .before .before .before .before .before .before .before .before .before .before .before .before .before .before .before .before .before .before .before .before .inside .ensures) (c .before .before .before .before .before .before .before .before .before .before .before .before .before .before .before .before .before .before .before .before .before .before .before .before .before .apply-tags .ensures) (c .before .before .before .before .before .before .before .before .before .before .before .before .before .before .before .before .before .before .before .before .before .before .before .before .factor .ensures) r in
+    let e = inner-is (toZ w32 (ofZ w32 (a .t))) (toZ w32 (ofZ w32 (a .dur))) (a .table .now) (a .at) (a .left) (a .a) (c .before .before .record-at .ensures) (c .before .inside .ensures) (c .apply-tags .ensures) in
     rw (toZ-ofZ w32 (a .t) (s .fits .t), toZ-ofZ w32 (a .dur) (s .fits .dur)) at e
 
 apply-tags-loop-again : (t : ℕ) → apply-tags-lts.Need-loop-again (calls-tags t) (apply-tags-at t) apply-tags.Post apply-tags-Inv-loop apply-tags-μ-loop
@@ -297,7 +277,7 @@ apply-tags-loop-again t c = turn-kind 1 refl (c .before .before .before .before 
 
 apply-tags-loop-again-2 : (t : ℕ) → apply-tags-lts.Need-loop-again-2 (calls-tags t) (apply-tags-at t) apply-tags.Post apply-tags-Inv-loop apply-tags-μ-loop
 unfolding applyOwn decodeOne decoders
-apply-tags-loop-again-2 t c = turn-kind 2 refl (c .before .before .before .before .before .before .loop .inv) (c .before .before .before .before .before .loop-test .taken) (c .before .before .before .before .record-at .ensures) (c .before .before .before .match .keys2) (ap (withAlways (c .before .before .before .before .before .before .loop .post)) (sym (rw (c .before .record-at3 .ensures ∙ sym (c .before .before .before .before .record-at .ensures)) at (c .fade .ensures))))
+apply-tags-loop-again-2 t c = turn-kind 2 refl (c .before .before .before .before .before .before .loop .inv) (c .before .before .before .before .before .loop-test .taken) (c .before .before .before .before .record-at .ensures) (c .before .before .before .match .keys2) (ap (withAlways (c .before .before .before .before .before .before .loop .post)) (sym (rw (c .before .before .fade-by .ensures) at (c .faded .ensures))))
 
 apply-tags-loop-again-3 : (t : ℕ) → apply-tags-lts.Need-loop-again-3 (calls-tags t) (apply-tags-at t) apply-tags.Post apply-tags-Inv-loop apply-tags-μ-loop
 unfolding applyOwn decodeOne decoders
@@ -305,7 +285,7 @@ apply-tags-loop-again-3 t c = turn-kind 3 refl (c .before .before .before .befor
 
 apply-tags-loop-again-4 : (t : ℕ) → apply-tags-lts.Need-loop-again-4 (calls-tags t) (apply-tags-at t) apply-tags.Post apply-tags-Inv-loop apply-tags-μ-loop
 unfolding applyOwn decodeOne decoders
-apply-tags-loop-again-4 t c = turn-kind 4 refl (c .before .before .before .before .before .before .before .loop .inv) (c .before .before .before .before .before .before .loop-test .taken) (c .before .before .before .before .before .record-at .ensures) (c .before .before .before .before .match .keys4) (ap (withPlaces (c .before .before .before .before .before .before .before .loop .post)) (sym (rw (c .before .moved .ensures, c .before .before .record-at4 .ensures ∙ sym (c .before .before .before .before .before .record-at .ensures)) at (c .set-translate2 .ensures))))
+apply-tags-loop-again-4 t c = turn-kind 4 refl (c .before .before .before .before .before .before .before .loop .inv) (c .before .before .before .before .before .before .loop-test .taken) (c .before .before .before .before .before .record-at .ensures) (c .before .before .before .before .match .keys4) (ap (withPlaces (c .before .before .before .before .before .before .before .loop .post)) (sym (rw (c .before .moved .ensures, c .before .before .before .progress .ensures) at (c .set-translate2 .ensures))))
 
 apply-tags-loop-again-5 : (t : ℕ) → apply-tags-lts.Need-loop-again-5 (calls-tags t) (apply-tags-at t) apply-tags.Post apply-tags-Inv-loop apply-tags-μ-loop
 unfolding applyOwn decodeOne decoders
@@ -325,7 +305,7 @@ apply-tags-loop-again-8 t c = turn-kind 8 refl (c .before .before .before .befor
 
 apply-tags-loop-again-9 : (t : ℕ) → apply-tags-lts.Need-loop-again-9 (calls-tags t) (apply-tags-at t) apply-tags.Post apply-tags-Inv-loop apply-tags-μ-loop
 unfolding applyOwn decodeOne decoders
-apply-tags-loop-again-9 t c = turn-kind 9 refl (c .before .before .before .before .before .before .before .loop .inv) (c .before .before .before .before .before .before .loop-test .taken) (c .before .before .before .before .before .record-at .ensures) (c .before .before .before .before .match .keys9) (ap (withColors (c .before .before .before .before .before .before .before .loop .post)) (sym (rw (c .before .some-rgb .ensures, c .before .before .record-at5 .ensures ∙ sym (c .before .before .before .before .before .record-at .ensures)) at (c .set-primary-color .ensures))))
+apply-tags-loop-again-9 t c = turn-kind 9 refl (c .before .before .before .before .before .before .before .loop .inv) (c .before .before .before .before .before .before .loop-test .taken) (c .before .before .before .before .before .record-at .ensures) (c .before .before .before .before .match .keys9) (ap (withColors (c .before .before .before .before .before .before .before .loop .post)) (sym (rw (c .before .some-rgb .ensures, c .before .before .record-at3 .ensures ∙ sym (c .before .before .before .before .before .record-at .ensures)) at (c .set-primary-color .ensures))))
 
 apply-tags-loop-again-10 : (t : ℕ) → apply-tags-lts.Need-loop-again-10 (calls-tags t) (apply-tags-at t) apply-tags.Post apply-tags-Inv-loop apply-tags-μ-loop
 unfolding applyOwn decodeOne decoders
@@ -333,7 +313,7 @@ apply-tags-loop-again-10 t c = turn-kind 10 refl (c .before .before .before .bef
 
 apply-tags-loop-again-11 : (t : ℕ) → apply-tags-lts.Need-loop-again-11 (calls-tags t) (apply-tags-at t) apply-tags.Post apply-tags-Inv-loop apply-tags-μ-loop
 unfolding applyOwn decodeOne decoders
-apply-tags-loop-again-11 t c = turn-kind 11 refl (c .before .before .before .before .before .before .before .loop .inv) (c .before .before .before .before .before .before .loop-test .taken) (c .before .before .before .before .before .record-at .ensures) (c .before .before .before .before .match .keys11) (ap (withClips (c .before .before .before .before .before .before .before .loop .post)) (sym (rw (c .before .some-rect .ensures, c .before .before .record-at6 .ensures ∙ sym (c .before .before .before .before .before .record-at .ensures)) at (c .set-clip-rect .ensures))))
+apply-tags-loop-again-11 t c = turn-kind 11 refl (c .before .before .before .before .before .before .before .loop .inv) (c .before .before .before .before .before .before .loop-test .taken) (c .before .before .before .before .before .record-at .ensures) (c .before .before .before .before .match .keys11) (ap (withClips (c .before .before .before .before .before .before .before .loop .post)) (sym (rw (c .before .some-rect .ensures, c .before .before .record-at4 .ensures ∙ sym (c .before .before .before .before .before .record-at .ensures)) at (c .set-clip-rect .ensures))))
 
 apply-tags-loop-again-12 : (t : ℕ) → apply-tags-lts.Need-loop-again-12 (calls-tags t) (apply-tags-at t) apply-tags.Post apply-tags-Inv-loop apply-tags-μ-loop
 unfolding applyOwn decodeOne decoders
@@ -357,11 +337,11 @@ apply-tags-loop-again-16 t c = turn-kind 16 refl (c .before .before .before .bef
 
 apply-tags-loop-again-17 : (t : ℕ) → apply-tags-lts.Need-loop-again-17 (calls-tags t) (apply-tags-at t) apply-tags.Post apply-tags-Inv-loop apply-tags-μ-loop
 unfolding applyOwn decodeOne decoders
-apply-tags-loop-again-17 t c = turn-kind 17 refl (c .before .before .before .before .before .before .before .loop .inv) (c .before .before .before .before .before .before .loop-test .taken) (c .before .before .before .before .before .record-at .ensures) (c .before .before .before .before .match .keys17) (ap (withPlaces (c .before .before .before .before .before .before .before .loop .post)) (sym (rw (c .before .with-x .ensures, c .before .before .above-zero3 .ensures) at (c .set-border2 .ensures))))
+apply-tags-loop-again-17 t c = turn-kind 17 refl (c .before .before .before .before .before .before .before .before .loop .inv) (c .before .before .before .before .before .before .before .loop-test .taken) (c .before .before .before .before .before .before .record-at .ensures) (c .before .before .before .before .before .match .keys17) (ap (withPlaces (c .before .before .before .before .before .before .before .before .loop .post)) (sym (rw (c .before .with-x .ensures, c .before .before .above-zero3 .ensures) at (c .set-border2 .ensures))))
 
 apply-tags-loop-again-18 : (t : ℕ) → apply-tags-lts.Need-loop-again-18 (calls-tags t) (apply-tags-at t) apply-tags.Post apply-tags-Inv-loop apply-tags-μ-loop
 unfolding applyOwn decodeOne decoders
-apply-tags-loop-again-18 t c = turn-kind 18 refl (c .before .before .before .before .before .before .before .loop .inv) (c .before .before .before .before .before .before .loop-test .taken) (c .before .before .before .before .before .record-at .ensures) (c .before .before .before .before .match .keys18) (ap (withPlaces (c .before .before .before .before .before .before .before .loop .post)) (sym (rw (c .before .with-y .ensures, c .before .before .above-zero4 .ensures) at (c .set-border3 .ensures))))
+apply-tags-loop-again-18 t c = turn-kind 18 refl (c .before .before .before .before .before .before .before .before .loop .inv) (c .before .before .before .before .before .before .before .loop-test .taken) (c .before .before .before .before .before .before .record-at .ensures) (c .before .before .before .before .before .match .keys18) (ap (withPlaces (c .before .before .before .before .before .before .before .before .loop .post)) (sym (rw (c .before .with-y .ensures, c .before .before .above-zero4 .ensures) at (c .set-border3 .ensures))))
 
 apply-tags-loop-again-19 : (t : ℕ) → apply-tags-lts.Need-loop-again-19 (calls-tags t) (apply-tags-at t) apply-tags.Post apply-tags-Inv-loop apply-tags-μ-loop
 unfolding applyOwn decodeOne decoders
@@ -369,11 +349,11 @@ apply-tags-loop-again-19 t c = turn-kind 19 refl (c .before .before .before .bef
 
 apply-tags-loop-again-20 : (t : ℕ) → apply-tags-lts.Need-loop-again-20 (calls-tags t) (apply-tags-at t) apply-tags.Post apply-tags-Inv-loop apply-tags-μ-loop
 unfolding applyOwn decodeOne decoders
-apply-tags-loop-again-20 t c = turn-kind 20 refl (c .before .before .before .before .before .before .before .loop .inv) (c .before .before .before .before .before .before .loop-test .taken) (c .before .before .before .before .before .record-at .ensures) (c .before .before .before .before .match .keys20) (ap (withPlaces (c .before .before .before .before .before .before .before .loop .post)) (sym (rw (c .before .with-x2 .ensures, c .before .before .f32-of-word .ensures) at (c .set-shadow2 .ensures))))
+apply-tags-loop-again-20 t c = turn-kind 20 refl (c .before .before .before .before .before .before .before .before .loop .inv) (c .before .before .before .before .before .before .before .loop-test .taken) (c .before .before .before .before .before .before .record-at .ensures) (c .before .before .before .before .before .match .keys20) (ap (withPlaces (c .before .before .before .before .before .before .before .before .loop .post)) (sym (rw (c .before .with-x2 .ensures, c .before .before .f32-of-word .ensures) at (c .set-shadow2 .ensures))))
 
 apply-tags-loop-again-21 : (t : ℕ) → apply-tags-lts.Need-loop-again-21 (calls-tags t) (apply-tags-at t) apply-tags.Post apply-tags-Inv-loop apply-tags-μ-loop
 unfolding applyOwn decodeOne decoders
-apply-tags-loop-again-21 t c = turn-kind 21 refl (c .before .before .before .before .before .before .before .loop .inv) (c .before .before .before .before .before .before .loop-test .taken) (c .before .before .before .before .before .record-at .ensures) (c .before .before .before .before .match .keys21) (ap (withPlaces (c .before .before .before .before .before .before .before .loop .post)) (sym (rw (c .before .with-y2 .ensures, c .before .before .f32-of-word2 .ensures) at (c .set-shadow3 .ensures))))
+apply-tags-loop-again-21 t c = turn-kind 21 refl (c .before .before .before .before .before .before .before .before .loop .inv) (c .before .before .before .before .before .before .before .loop-test .taken) (c .before .before .before .before .before .before .record-at .ensures) (c .before .before .before .before .before .match .keys21) (ap (withPlaces (c .before .before .before .before .before .before .before .before .loop .post)) (sym (rw (c .before .with-y2 .ensures, c .before .before .f32-of-word2 .ensures) at (c .set-shadow3 .ensures))))
 
 apply-tags-loop-again-22 : (t : ℕ) → apply-tags-lts.Need-loop-again-22 (calls-tags t) (apply-tags-at t) apply-tags.Post apply-tags-Inv-loop apply-tags-μ-loop
 unfolding applyOwn decodeOne decoders
@@ -389,7 +369,7 @@ apply-tags-loop-again-24 t c = turn-kind 24 refl (c .before .before .before .bef
 
 apply-tags-loop-again-25 : (t : ℕ) → apply-tags-lts.Need-loop-again-25 (calls-tags t) (apply-tags-at t) apply-tags.Post apply-tags-Inv-loop apply-tags-μ-loop
 unfolding applyOwn decodeOne decoders
-apply-tags-loop-again-25 t c = turn-kind 25 refl (c .before .before .before .before .before .before .before .loop .inv) (c .before .before .before .before .before .before .loop-test .taken) (c .before .before .before .before .before .record-at .ensures) (c .before .before .before .before .match .keys25) (ap (withClips (c .before .before .before .before .before .before .before .loop .post)) (sym (rw (c .before .some-rect2 .ensures, c .before .before .record-at7 .ensures ∙ sym (c .before .before .before .before .before .record-at .ensures)) at (c .set-iclip-rect .ensures))))
+apply-tags-loop-again-25 t c = turn-kind 25 refl (c .before .before .before .before .before .before .before .loop .inv) (c .before .before .before .before .before .before .loop-test .taken) (c .before .before .before .before .before .record-at .ensures) (c .before .before .before .before .match .keys25) (ap (withClips (c .before .before .before .before .before .before .before .loop .post)) (sym (rw (c .before .some-rect2 .ensures, c .before .before .record-at5 .ensures ∙ sym (c .before .before .before .before .before .record-at .ensures)) at (c .set-iclip-rect .ensures))))
 
 apply-tags-loop-again-26 : (t : ℕ) → apply-tags-lts.Need-loop-again-26 (calls-tags t) (apply-tags-at t) apply-tags.Post apply-tags-Inv-loop apply-tags-μ-loop
 unfolding applyOwn decodeOne decoders
@@ -397,15 +377,15 @@ apply-tags-loop-again-26 t c = turn-kind 26 refl (c .before .before .before .bef
 
 apply-tags-loop-again-27 : (t : ℕ) → apply-tags-lts.Need-loop-again-27 (calls-tags t) (apply-tags-at t) apply-tags.Post apply-tags-Inv-loop apply-tags-μ-loop
 unfolding applyOwn decodeOne decoders
-apply-tags-loop-again-27 t c = turn-kind 27 refl (c .before .before .before .before .before .before .before .loop .inv) (c .before .before .before .before .before .before .loop-test .taken) (c .before .before .before .before .before .record-at .ensures) (c .before .before .before .before .match .keys27) (ap (withColors (c .before .before .before .before .before .before .before .loop .post)) (sym (rw (c .before .some-rgb2 .ensures, c .before .before .record-at8 .ensures ∙ sym (c .before .before .before .before .before .record-at .ensures)) at (c .set-secondary-color .ensures))))
+apply-tags-loop-again-27 t c = turn-kind 27 refl (c .before .before .before .before .before .before .before .loop .inv) (c .before .before .before .before .before .before .loop-test .taken) (c .before .before .before .before .before .record-at .ensures) (c .before .before .before .before .match .keys27) (ap (withColors (c .before .before .before .before .before .before .before .loop .post)) (sym (rw (c .before .some-rgb2 .ensures, c .before .before .record-at6 .ensures ∙ sym (c .before .before .before .before .before .record-at .ensures)) at (c .set-secondary-color .ensures))))
 
 apply-tags-loop-again-28 : (t : ℕ) → apply-tags-lts.Need-loop-again-28 (calls-tags t) (apply-tags-at t) apply-tags.Post apply-tags-Inv-loop apply-tags-μ-loop
 unfolding applyOwn decodeOne decoders
-apply-tags-loop-again-28 t c = turn-kind 28 refl (c .before .before .before .before .before .before .before .loop .inv) (c .before .before .before .before .before .before .loop-test .taken) (c .before .before .before .before .before .record-at .ensures) (c .before .before .before .before .match .keys28) (ap (withColors (c .before .before .before .before .before .before .before .loop .post)) (sym (rw (c .before .some-rgb3 .ensures, c .before .before .record-at9 .ensures ∙ sym (c .before .before .before .before .before .record-at .ensures)) at (c .set-outline-color .ensures))))
+apply-tags-loop-again-28 t c = turn-kind 28 refl (c .before .before .before .before .before .before .before .loop .inv) (c .before .before .before .before .before .before .loop-test .taken) (c .before .before .before .before .before .record-at .ensures) (c .before .before .before .before .match .keys28) (ap (withColors (c .before .before .before .before .before .before .before .loop .post)) (sym (rw (c .before .some-rgb3 .ensures, c .before .before .record-at7 .ensures ∙ sym (c .before .before .before .before .before .record-at .ensures)) at (c .set-outline-color .ensures))))
 
 apply-tags-loop-again-29 : (t : ℕ) → apply-tags-lts.Need-loop-again-29 (calls-tags t) (apply-tags-at t) apply-tags.Post apply-tags-Inv-loop apply-tags-μ-loop
 unfolding applyOwn decodeOne decoders
-apply-tags-loop-again-29 t c = turn-kind 29 refl (c .before .before .before .before .before .before .before .loop .inv) (c .before .before .before .before .before .before .loop-test .taken) (c .before .before .before .before .before .record-at .ensures) (c .before .before .before .before .match .keys29) (ap (withColors (c .before .before .before .before .before .before .before .loop .post)) (sym (rw (c .before .some-rgb4 .ensures, c .before .before .record-at10 .ensures ∙ sym (c .before .before .before .before .before .record-at .ensures)) at (c .set-shadow-color .ensures))))
+apply-tags-loop-again-29 t c = turn-kind 29 refl (c .before .before .before .before .before .before .before .loop .inv) (c .before .before .before .before .before .before .loop-test .taken) (c .before .before .before .before .before .record-at .ensures) (c .before .before .before .before .match .keys29) (ap (withColors (c .before .before .before .before .before .before .before .loop .post)) (sym (rw (c .before .some-rgb4 .ensures, c .before .before .record-at8 .ensures ∙ sym (c .before .before .before .before .before .record-at .ensures)) at (c .set-shadow-color .ensures))))
 
 apply-tags-loop-again-30 : (t : ℕ) → apply-tags-lts.Need-loop-again-30 (calls-tags t) (apply-tags-at t) apply-tags.Post apply-tags-Inv-loop apply-tags-μ-loop
 unfolding applyOwn decodeOne decoders
@@ -413,19 +393,19 @@ apply-tags-loop-again-30 t c = turn-kind 30 refl (c .before .before .before .bef
 
 apply-tags-loop-again-31 : (t : ℕ) → apply-tags-lts.Need-loop-again-31 (calls-tags t) (apply-tags-at t) apply-tags.Post apply-tags-Inv-loop apply-tags-μ-loop
 unfolding applyOwn decodeOne decoders
-apply-tags-loop-again-31 t c = turn-kind 31 refl (c .before .before .before .before .before .before .loop .inv) (c .before .before .before .before .before .loop-test .taken) (c .before .before .before .before .record-at .ensures) (c .before .before .before .match .keys31) (ap (withAlphas (c .before .before .before .before .before .before .loop .post)) (sym (rw (c .before .some-u8 .ensures) at (c .set-primary-alpha .ensures))))
+apply-tags-loop-again-31 t c = turn-kind 31 refl (c .before .before .before .before .before .loop .inv) (c .before .before .before .before .loop-test .taken) (c .before .before .before .record-at .ensures) (c .before .before .match .keys31) (sym (rw (c .alpha .ensures)))
 
 apply-tags-loop-again-32 : (t : ℕ) → apply-tags-lts.Need-loop-again-32 (calls-tags t) (apply-tags-at t) apply-tags.Post apply-tags-Inv-loop apply-tags-μ-loop
 unfolding applyOwn decodeOne decoders
-apply-tags-loop-again-32 t c = turn-kind 32 refl (c .before .before .before .before .before .before .loop .inv) (c .before .before .before .before .before .loop-test .taken) (c .before .before .before .before .record-at .ensures) (c .before .before .before .match .keys32) (ap (withAlphas (c .before .before .before .before .before .before .loop .post)) (sym (rw (c .before .some-u82 .ensures) at (c .set-secondary-alpha .ensures))))
+apply-tags-loop-again-32 t c = turn-kind 32 refl (c .before .before .before .before .before .loop .inv) (c .before .before .before .before .loop-test .taken) (c .before .before .before .record-at .ensures) (c .before .before .match .keys32) (sym (rw (c .alpha2 .ensures)))
 
 apply-tags-loop-again-33 : (t : ℕ) → apply-tags-lts.Need-loop-again-33 (calls-tags t) (apply-tags-at t) apply-tags.Post apply-tags-Inv-loop apply-tags-μ-loop
 unfolding applyOwn decodeOne decoders
-apply-tags-loop-again-33 t c = turn-kind 33 refl (c .before .before .before .before .before .before .loop .inv) (c .before .before .before .before .before .loop-test .taken) (c .before .before .before .before .record-at .ensures) (c .before .before .before .match .keys33) (ap (withAlphas (c .before .before .before .before .before .before .loop .post)) (sym (rw (c .before .some-u83 .ensures) at (c .set-outline-alpha .ensures))))
+apply-tags-loop-again-33 t c = turn-kind 33 refl (c .before .before .before .before .before .loop .inv) (c .before .before .before .before .loop-test .taken) (c .before .before .before .record-at .ensures) (c .before .before .match .keys33) (sym (rw (c .alpha3 .ensures)))
 
 apply-tags-loop-again-34 : (t : ℕ) → apply-tags-lts.Need-loop-again-34 (calls-tags t) (apply-tags-at t) apply-tags.Post apply-tags-Inv-loop apply-tags-μ-loop
 unfolding applyOwn decodeOne decoders
-apply-tags-loop-again-34 t c = turn-kind 34 refl (c .before .before .before .before .before .before .loop .inv) (c .before .before .before .before .before .loop-test .taken) (c .before .before .before .before .record-at .ensures) (c .before .before .before .match .keys34) (ap (withAlphas (c .before .before .before .before .before .before .loop .post)) (sym (rw (c .before .some-u84 .ensures) at (c .set-shadow-alpha .ensures))))
+apply-tags-loop-again-34 t c = turn-kind 34 refl (c .before .before .before .before .before .loop .inv) (c .before .before .before .before .loop-test .taken) (c .before .before .before .record-at .ensures) (c .before .before .match .keys34) (sym (rw (c .alpha4 .ensures)))
 
 apply-tags-loop-again-35 : (t : ℕ) → apply-tags-lts.Need-loop-again-35 (calls-tags t) (apply-tags-at t) apply-tags.Post apply-tags-Inv-loop apply-tags-μ-loop
 unfolding applyOwn decodeOne decoders
@@ -445,15 +425,15 @@ apply-tags-loop-again-38 t c = turn-kind 38 refl (c .before .before .before .bef
 
 apply-tags-loop-again-39 : (t : ℕ) → apply-tags-lts.Need-loop-again-39 (calls-tags t) (apply-tags-at t) apply-tags.Post apply-tags-Inv-loop apply-tags-μ-loop
 unfolding applyOwn decodeOne decoders
-apply-tags-loop-again-39 t c = turn-kind 39 refl (c .before .before .before .before .before .before .before .loop .inv) (c .before .before .before .before .before .before .loop-test .taken) (c .before .before .before .before .before .record-at .ensures) (c .before .before .before .before .match .keys39) (ap (withFont (c .before .before .before .before .before .before .before .loop .post)) (sym (rw (c .before .some-name .ensures, c .before .before .record-at11 .ensures ∙ sym (c .before .before .before .before .before .record-at .ensures)) at (c .set-font-name .ensures))))
+apply-tags-loop-again-39 t c = turn-kind 39 refl (c .before .before .before .before .before .before .before .loop .inv) (c .before .before .before .before .before .before .loop-test .taken) (c .before .before .before .before .before .record-at .ensures) (c .before .before .before .before .match .keys39) (ap (withFont (c .before .before .before .before .before .before .before .loop .post)) (sym (rw (c .before .some-name .ensures, c .before .before .record-at9 .ensures ∙ sym (c .before .before .before .before .before .record-at .ensures)) at (c .set-font-name .ensures))))
 
 apply-tags-loop-again-40 : (t : ℕ) → apply-tags-lts.Need-loop-again-40 (calls-tags t) (apply-tags-at t) apply-tags.Post apply-tags-Inv-loop apply-tags-μ-loop
 unfolding applyOwn decodeOne decoders
-apply-tags-loop-again-40 t c = turn-kind 40 refl (c .before .before .before .before .before .before .loop .inv) (c .before .before .before .before .before .loop-test .taken) (c .before .before .before .before .record-at .ensures) (c .before .before .before .match .keys40) (ap (withFont (c .before .before .before .before .before .before .loop .post)) (sym (rw (c .before .some-u85 .ensures) at (c .set-font-encoding .ensures))))
+apply-tags-loop-again-40 t c = turn-kind 40 refl (c .before .before .before .before .before .before .loop .inv) (c .before .before .before .before .before .loop-test .taken) (c .before .before .before .before .record-at .ensures) (c .before .before .before .match .keys40) (ap (withFont (c .before .before .before .before .before .before .loop .post)) (sym (rw (c .before .some-u8 .ensures) at (c .set-font-encoding .ensures))))
 
 apply-tags-loop-again-41 : (t : ℕ) → apply-tags-lts.Need-loop-again-41 (calls-tags t) (apply-tags-at t) apply-tags.Post apply-tags-Inv-loop apply-tags-μ-loop
 unfolding applyOwn decodeOne decoders resetBy
-apply-tags-loop-again-41 t c = turn-kind 41 refl (c .before .before .before .before .before .loop .inv) (c .before .before .before .before .loop-test .taken) (c .before .before .before .record-at .ensures) (c .before .before .match .keys41) (sym (rw (c .before .record-at12 .ensures ∙ sym (c .before .before .before .record-at .ensures)) at (c .reset .ensures)))
+apply-tags-loop-again-41 t c = turn-kind 41 refl (c .before .before .before .before .before .before .before .loop .inv) (c .before .before .before .before .before .before .loop-test .taken) (c .before .before .before .before .before .record-at .ensures) (c .before .before .before .before .match .keys41) (sym (rw (c .set-reset-to-style .ensures, c .before .reset-of .ensures, c .before .before .s40 .given, c .before .before .before .identity .ensures)))
 
 apply-tags-loop-again-42 : (t : ℕ) → apply-tags-lts.Need-loop-again-42 (calls-tags t) (apply-tags-at t) apply-tags.Post apply-tags-Inv-loop apply-tags-μ-loop
 unfolding applyOwn decodeOne decoders
@@ -481,22 +461,22 @@ apply-tags-loop-again-47 t c = turn-kind 47 refl (c .before .before .before .bef
 
 apply-tags-loop-again-48 : (t : ℕ) → apply-tags-lts.Need-loop-again-48 (calls-tags t) (apply-tags-at t) apply-tags.Post apply-tags-Inv-loop apply-tags-μ-loop
 unfolding applyOwn decodeOne decoders
-apply-tags-loop-again-48 t c = turn-kind 48 refl (c .before .before .before .before .before .before .loop .inv) (c .before .before .before .before .before .loop-test .taken) (c .before .before .before .before .record-at .ensures) (c .before .before .before .match .keys48) (ap (withLine (c .before .before .before .before .before .before .loop .post)) (sym (rw (c .before .some-u86 .ensures) at (c .set-drawing-scale .ensures))))
+apply-tags-loop-again-48 t c = turn-kind 48 refl (c .before .before .before .before .before .before .loop .inv) (c .before .before .before .before .before .loop-test .taken) (c .before .before .before .before .record-at .ensures) (c .before .before .before .match .keys48) (ap (withLine (c .before .before .before .before .before .before .loop .post)) (sym (rw (c .before .some-u82 .ensures) at (c .set-drawing-scale .ensures))))
 
 apply-tags-loop-again-49 : (t : ℕ) → apply-tags-lts.Need-loop-again-49 (calls-tags t) (apply-tags-at t) apply-tags.Post apply-tags-Inv-loop apply-tags-μ-loop
-apply-tags-loop-again-49 t c = turn-around (c .before .before .before .before .before .loop .inv) (c .before .before .before .before .loop-test .taken) (c .before .before .before .record-at .ensures) (c .before .before .match .keys49) (c .before .inside .ensures) (c .apply-t .ensures)
+apply-tags-loop-again-49 t c = turn-around (c .before .before .before .before .before .before .before .loop .inv) (c .before .before .before .before .before .before .loop-test .taken) (c .before .before .before .before .before .record-at .ensures) (c .before .before .before .before .match .keys49) (c .before .before .before .inside .ensures) (mixed-is _ _ _ _ _ _ (c .before .before .before .before .before .record-at .ensures) (c .before .before .apply-t .ensures) (c .before .factor .ensures) (c .mix-state .ensures))
 
 apply-tags-loop-again-50 : (t : ℕ) → apply-tags-lts.Need-loop-again-50 (calls-tags t) (apply-tags-at t) apply-tags.Post apply-tags-Inv-loop apply-tags-μ-loop
 apply-tags-loop-again-50 t c = turn-by Group.Nothing refl (c .before .before .before .loop .inv) (c .before .before .loop-test .taken) (c .before .record-at .ensures) refl (no-kind _ (c .match .rest)) (nothing-law _ _ _ _ _)
 
 apply-tags-add-at-49 : (t : ℕ) → apply-tags-lts.Need-add-at-49 (calls-tags t) (apply-tags-at t) apply-tags.Post apply-tags-Inv-loop apply-tags-μ-loop
-apply-tags-add-at-49 t c = omega (arith, c .before .before .before .before .before .loop .inv .end, c .before .inside .ensures, c .before .before .before .before .loop-test .taken, c .before .before .before .before .before .before .before .pre, c .before .before .before .before .before .before .before .good .0)
+apply-tags-add-at-49 t c = omega (arith, c .before .before .before .before .before .before .before .loop .inv .end, c .before .before .before .inside .ensures, c .before .before .before .before .before .before .loop-test .taken, c .before .before .before .before .before .before .before .before .before .pre, c .before .before .before .before .before .before .before .before .before .good .0)
 
 apply-tags-sub-left-49 : (t : ℕ) → apply-tags-lts.Need-sub-left-49 (calls-tags t) (apply-tags-at t) apply-tags.Post apply-tags-Inv-loop apply-tags-μ-loop
-apply-tags-sub-left-49 t c = omega (arith, c .before .before .before .before .before .loop .inv .end, c .before .inside .ensures, c .before .before .before .before .loop-test .taken, c .before .before .before .before .before .before .before .pre, c .before .before .before .before .before .before .before .good .0)
+apply-tags-sub-left-49 t c = omega (arith, c .before .before .before .before .before .before .before .loop .inv .end, c .before .before .before .inside .ensures, c .before .before .before .before .before .before .loop-test .taken, c .before .before .before .before .before .before .before .before .before .pre, c .before .before .before .before .before .before .before .before .before .good .0)
 
 apply-tags-loop-less-49 : (t : ℕ) → apply-tags-lts.Need-loop-less-49 (calls-tags t) (apply-tags-at t) apply-tags.Post apply-tags-Inv-loop apply-tags-μ-loop
-apply-tags-loop-less-49 t c = omega (arith, c .before .before .before .before .before .loop .inv .end, c .before .inside .ensures, c .before .before .before .before .loop-test .taken, c .before .before .before .before .before .before .before .pre, c .before .before .before .before .before .before .before .good .0)
+apply-tags-loop-less-49 t c = omega (arith, c .before .before .before .before .before .before .before .loop .inv .end, c .before .before .before .inside .ensures, c .before .before .before .before .before .before .loop-test .taken, c .before .before .before .before .before .before .before .before .before .pre, c .before .before .before .before .before .before .before .before .before .good .0)
 
 apply-tags-returns : (t : ℕ) → apply-tags-lts.Need-returns (calls-tags t) (apply-tags-at t) apply-tags.Post apply-tags-Inv-loop apply-tags-μ-loop
 apply-tags-returns t c = let s = c .before .before .before in loop-done (c .before .loop .inv) (c .loop-test .left) ∙ rw (toZ-ofZ w32 (s .args .t) (s .fits .t), toZ-ofZ w32 (s .args .dur) (s .fits .dur))
@@ -504,6 +484,6 @@ apply-tags-returns t c = let s = c .before .before .before in loop-done (c .befo
 pub +apply-t+apply-tags-spec : {M : Type 1} → statement M
 +apply-t+apply-tags-spec =
     close μ-apply-t μ-apply-tags (λ t. apply-t-lts.spec (calls-t t) (apply-t-at t) apply-t.Post
-    (λ c κs. search needs) (λ c. search needs) (λ c. search needs) (λ c κs. search needs) (λ c κs. search needs) (λ c κs. search needs) (λ c κs. search needs) (λ c κs. search needs) (λ c κs. search needs) (λ c κs. search needs) (λ c κs. search needs) (λ c κs. search needs) (λ c κs. search needs) (λ c κs. search needs) (apply-t-returns t))
+    (λ c κs. search needs) (λ c. search needs) (λ c. search needs) (λ c κs. search needs) (λ c κs. search needs) (apply-t-returns t))
     (λ t. apply-tags-lts.spec (calls-tags t) (apply-tags-at t) apply-tags.Post apply-tags-Inv-loop apply-tags-μ-loop
-    (λ c. search needs) (λ c κs. search needs) (λ c κs. omega (arith, c .before .before .before .before .loop .inv .end, c .before .before .before .loop-test .taken, c .before .before .before .before .before .before .pre)) (λ c κs. search needs) (λ c. search needs) (λ c. search needs) (λ c. search needs) (apply-tags-loop-again t) (λ c κs. omega (arith, c .before .before .before .before .loop .inv .end, c .before .before .before .loop-test .taken, c .before .before .before .before .before .before .pre)) (λ c κs. search needs) (λ c. search needs) (λ c. search needs) (λ c. search needs) (apply-tags-loop-again-2 t) (λ c κs. search needs) (λ c κs. search needs) (λ c. search needs) (λ c. search needs) (λ c. search needs) (apply-tags-loop-again-3 t) (λ c κs. omega (arith, c .before .before .before .before .loop .inv .end, c .before .before .before .loop-test .taken, c .before .before .before .before .before .before .pre)) (λ c κs. search needs) (λ c κs. search needs) (λ c. search needs) (λ c. search needs) (λ c. search needs) (apply-tags-loop-again-4 t) (λ c κs. search needs) (λ c κs. search needs) (λ c. search needs) (λ c. search needs) (λ c. search needs) (apply-tags-loop-again-5 t) (λ c κs. search needs) (λ c κs. search needs) (λ c. search needs) (λ c. search needs) (λ c. search needs) (apply-tags-loop-again-6 t) (λ c κs. search needs) (λ c. search needs) (λ c. search needs) (λ c. search needs) (apply-tags-loop-again-7 t) (λ c κs. search needs) (λ c. search needs) (λ c. search needs) (λ c. search needs) (apply-tags-loop-again-8 t) (λ c κs. omega (arith, c .before .before .before .before .loop .inv .end, c .before .before .before .loop-test .taken, c .before .before .before .before .before .before .pre)) (λ c κs. search needs) (λ c κs. search needs) (λ c. search needs) (λ c. search needs) (λ c. search needs) (apply-tags-loop-again-9 t) (λ c κs. search needs) (λ c κs. search needs) (λ c. search needs) (λ c. search needs) (λ c. search needs) (apply-tags-loop-again-10 t) (λ c κs. omega (arith, c .before .before .before .before .loop .inv .end, c .before .before .before .loop-test .taken, c .before .before .before .before .before .before .pre)) (λ c κs. search needs) (λ c κs. search needs) (λ c. search needs) (λ c. search needs) (λ c. search needs) (apply-tags-loop-again-11 t) (λ c κs. search needs) (λ c κs. search needs) (λ c. search needs) (λ c. search needs) (λ c. search needs) (apply-tags-loop-again-12 t) (λ c κs. search needs) (λ c κs. search needs) (λ c. search needs) (λ c. search needs) (λ c. search needs) (apply-tags-loop-again-13 t) (λ c κs. search needs) (λ c κs. search needs) (λ c. search needs) (λ c. search needs) (λ c. search needs) (apply-tags-loop-again-14 t) (λ c κs. search needs) (λ c κs. search needs) (λ c. search needs) (λ c. search needs) (λ c. search needs) (apply-tags-loop-again-15 t) (λ c κs. search needs) (λ c κs. search needs) (λ c κs. search needs) (λ c. search needs) (λ c. search needs) (λ c. search needs) (apply-tags-loop-again-16 t) (λ c κs. search needs) (λ c κs. search needs) (λ c κs. search needs) (λ c. search needs) (λ c. search needs) (λ c. search needs) (apply-tags-loop-again-17 t) (λ c κs. search needs) (λ c κs. search needs) (λ c κs. search needs) (λ c. search needs) (λ c. search needs) (λ c. search needs) (apply-tags-loop-again-18 t) (λ c κs. search needs) (λ c κs. search needs) (λ c κs. search needs) (λ c. search needs) (λ c. search needs) (λ c. search needs) (apply-tags-loop-again-19 t) (λ c κs. search needs) (λ c κs. search needs) (λ c κs. search needs) (λ c. search needs) (λ c. search needs) (λ c. search needs) (apply-tags-loop-again-20 t) (λ c κs. search needs) (λ c κs. search needs) (λ c κs. search needs) (λ c. search needs) (λ c. search needs) (λ c. search needs) (apply-tags-loop-again-21 t) (λ c κs. search needs) (λ c κs. search needs) (λ c. search needs) (λ c. search needs) (λ c. search needs) (apply-tags-loop-again-22 t) (λ c κs. search needs) (λ c. search needs) (λ c. search needs) (λ c. search needs) (apply-tags-loop-again-23 t) (λ c κs. search needs) (λ c. search needs) (λ c. search needs) (λ c. search needs) (apply-tags-loop-again-24 t) (λ c κs. omega (arith, c .before .before .before .before .loop .inv .end, c .before .before .before .loop-test .taken, c .before .before .before .before .before .before .pre)) (λ c κs. search needs) (λ c κs. search needs) (λ c. search needs) (λ c. search needs) (λ c. search needs) (apply-tags-loop-again-25 t) (λ c κs. search needs) (λ c κs. search needs) (λ c. search needs) (λ c. search needs) (λ c. search needs) (apply-tags-loop-again-26 t) (λ c κs. omega (arith, c .before .before .before .before .loop .inv .end, c .before .before .before .loop-test .taken, c .before .before .before .before .before .before .pre)) (λ c κs. search needs) (λ c κs. search needs) (λ c. search needs) (λ c. search needs) (λ c. search needs) (apply-tags-loop-again-27 t) (λ c κs. omega (arith, c .before .before .before .before .loop .inv .end, c .before .before .before .loop-test .taken, c .before .before .before .before .before .before .pre)) (λ c κs. search needs) (λ c κs. search needs) (λ c. search needs) (λ c. search needs) (λ c. search needs) (apply-tags-loop-again-28 t) (λ c κs. omega (arith, c .before .before .before .before .loop .inv .end, c .before .before .before .loop-test .taken, c .before .before .before .before .before .before .pre)) (λ c κs. search needs) (λ c κs. search needs) (λ c. search needs) (λ c. search needs) (λ c. search needs) (apply-tags-loop-again-29 t) (λ c κs. search needs) (λ c. search needs) (λ c. search needs) (λ c. search needs) (apply-tags-loop-again-30 t) (λ c κs. search needs) (λ c κs. search needs) (λ c. search needs) (λ c. search needs) (λ c. search needs) (apply-tags-loop-again-31 t) (λ c κs. search needs) (λ c κs. search needs) (λ c. search needs) (λ c. search needs) (λ c. search needs) (apply-tags-loop-again-32 t) (λ c κs. search needs) (λ c κs. search needs) (λ c. search needs) (λ c. search needs) (λ c. search needs) (apply-tags-loop-again-33 t) (λ c κs. search needs) (λ c κs. search needs) (λ c. search needs) (λ c. search needs) (λ c. search needs) (apply-tags-loop-again-34 t) (λ c κs. search needs) (λ c κs. search needs) (λ c. search needs) (λ c. search needs) (λ c. search needs) (apply-tags-loop-again-35 t) (λ c κs. search needs) (λ c. search needs) (λ c. search needs) (λ c. search needs) (apply-tags-loop-again-36 t) (λ c κs. search needs) (λ c. search needs) (λ c. search needs) (λ c. search needs) (apply-tags-loop-again-37 t) (λ c κs. search needs) (λ c κs. search needs) (λ c. search needs) (λ c. search needs) (λ c. search needs) (apply-tags-loop-again-38 t) (λ c κs. omega (arith, c .before .before .before .before .loop .inv .end, c .before .before .before .loop-test .taken, c .before .before .before .before .before .before .pre)) (λ c κs. search needs) (λ c κs. search needs) (λ c. search needs) (λ c. search needs) (λ c. search needs) (apply-tags-loop-again-39 t) (λ c κs. search needs) (λ c κs. search needs) (λ c. search needs) (λ c. search needs) (λ c. search needs) (apply-tags-loop-again-40 t) (λ c κs. omega (arith, c .before .before .before .loop .inv .end, c .before .before .loop-test .taken, c .before .before .before .before .before .pre)) (λ c κs. search needs) (λ c. search needs) (λ c. search needs) (λ c. search needs) (apply-tags-loop-again-41 t) (λ c κs. search needs) (λ c κs. search needs) (λ c. search needs) (λ c. search needs) (λ c. search needs) (apply-tags-loop-again-42 t) (λ c κs. search needs) (λ c κs. search needs) (λ c. search needs) (λ c. search needs) (λ c. search needs) (apply-tags-loop-again-43 t) (λ c κs. search needs) (λ c κs. search needs) (λ c. search needs) (λ c. search needs) (λ c. search needs) (apply-tags-loop-again-44 t) (λ c κs. search needs) (λ c κs. search needs) (λ c. search needs) (λ c. search needs) (λ c. search needs) (apply-tags-loop-again-45 t) (λ c. search needs) (λ c. search needs) (λ c. search needs) (apply-tags-loop-again-46 t) (λ c κs. search needs) (λ c κs. search needs) (λ c. search needs) (λ c. search needs) (λ c. search needs) (apply-tags-loop-again-47 t) (λ c κs. search needs) (λ c κs. search needs) (λ c. search needs) (λ c. search needs) (λ c. search needs) (apply-tags-loop-again-48 t) (λ c. search needs) (λ c κs. search needs) (λ c. search needs) (λ c κs. search needs) (apply-tags-add-at-49 t) (apply-tags-sub-left-49 t) (apply-tags-loop-less-49 t) (apply-tags-loop-again-49 t) (λ c. search needs) (λ c. search needs) (λ c. search needs) (apply-tags-loop-again-50 t) (apply-tags-returns t))
+    (λ c. search needs) (λ c κs. search needs) (λ c κs. omega (arith, c .before .before .before .before .loop .inv .end, c .before .before .before .loop-test .taken, c .before .before .before .before .before .before .pre)) (λ c κs. search needs) (λ c. search needs) (λ c. search needs) (λ c. search needs) (apply-tags-loop-again t) (λ c κs. search needs) (λ c κs. search needs) (λ c. search needs) (λ c. search needs) (λ c. search needs) (apply-tags-loop-again-2 t) (λ c κs. search needs) (λ c κs. search needs) (λ c. search needs) (λ c. search needs) (λ c. search needs) (apply-tags-loop-again-3 t) (λ c κs. search needs) (λ c κs. search needs) (λ c κs. search needs) (λ c. search needs) (λ c. search needs) (λ c. search needs) (apply-tags-loop-again-4 t) (λ c κs. search needs) (λ c κs. search needs) (λ c. search needs) (λ c. search needs) (λ c. search needs) (apply-tags-loop-again-5 t) (λ c κs. search needs) (λ c κs. search needs) (λ c. search needs) (λ c. search needs) (λ c. search needs) (apply-tags-loop-again-6 t) (λ c κs. search needs) (λ c. search needs) (λ c. search needs) (λ c. search needs) (apply-tags-loop-again-7 t) (λ c κs. search needs) (λ c. search needs) (λ c. search needs) (λ c. search needs) (apply-tags-loop-again-8 t) (λ c κs. omega (arith, c .before .before .before .before .loop .inv .end, c .before .before .before .loop-test .taken, c .before .before .before .before .before .before .pre)) (λ c κs. search needs) (λ c κs. search needs) (λ c. search needs) (λ c. search needs) (λ c. search needs) (apply-tags-loop-again-9 t) (λ c κs. search needs) (λ c κs. search needs) (λ c. search needs) (λ c. search needs) (λ c. search needs) (apply-tags-loop-again-10 t) (λ c κs. omega (arith, c .before .before .before .before .loop .inv .end, c .before .before .before .loop-test .taken, c .before .before .before .before .before .before .pre)) (λ c κs. search needs) (λ c κs. search needs) (λ c. search needs) (λ c. search needs) (λ c. search needs) (apply-tags-loop-again-11 t) (λ c κs. search needs) (λ c κs. search needs) (λ c. search needs) (λ c. search needs) (λ c. search needs) (apply-tags-loop-again-12 t) (λ c κs. search needs) (λ c κs. search needs) (λ c. search needs) (λ c. search needs) (λ c. search needs) (apply-tags-loop-again-13 t) (λ c κs. search needs) (λ c κs. search needs) (λ c. search needs) (λ c. search needs) (λ c. search needs) (apply-tags-loop-again-14 t) (λ c κs. search needs) (λ c κs. search needs) (λ c. search needs) (λ c. search needs) (λ c. search needs) (apply-tags-loop-again-15 t) (λ c κs. search needs) (λ c κs. search needs) (λ c κs. search needs) (λ c. search needs) (λ c. search needs) (λ c. search needs) (apply-tags-loop-again-16 t) (λ c κs. search needs) (λ c κs. search needs) (λ c κs. search needs) (λ c. search needs) (λ c. search needs) (λ c. search needs) (apply-tags-loop-again-17 t) (λ c κs. search needs) (λ c κs. search needs) (λ c κs. search needs) (λ c. search needs) (λ c. search needs) (λ c. search needs) (apply-tags-loop-again-18 t) (λ c κs. search needs) (λ c κs. search needs) (λ c κs. search needs) (λ c. search needs) (λ c. search needs) (λ c. search needs) (apply-tags-loop-again-19 t) (λ c κs. search needs) (λ c κs. search needs) (λ c κs. search needs) (λ c. search needs) (λ c. search needs) (λ c. search needs) (apply-tags-loop-again-20 t) (λ c κs. search needs) (λ c κs. search needs) (λ c κs. search needs) (λ c. search needs) (λ c. search needs) (λ c. search needs) (apply-tags-loop-again-21 t) (λ c κs. search needs) (λ c κs. search needs) (λ c. search needs) (λ c. search needs) (λ c. search needs) (apply-tags-loop-again-22 t) (λ c κs. search needs) (λ c. search needs) (λ c. search needs) (λ c. search needs) (apply-tags-loop-again-23 t) (λ c κs. search needs) (λ c. search needs) (λ c. search needs) (λ c. search needs) (apply-tags-loop-again-24 t) (λ c κs. omega (arith, c .before .before .before .before .loop .inv .end, c .before .before .before .loop-test .taken, c .before .before .before .before .before .before .pre)) (λ c κs. search needs) (λ c κs. search needs) (λ c. search needs) (λ c. search needs) (λ c. search needs) (apply-tags-loop-again-25 t) (λ c κs. search needs) (λ c κs. search needs) (λ c. search needs) (λ c. search needs) (λ c. search needs) (apply-tags-loop-again-26 t) (λ c κs. omega (arith, c .before .before .before .before .loop .inv .end, c .before .before .before .loop-test .taken, c .before .before .before .before .before .before .pre)) (λ c κs. search needs) (λ c κs. search needs) (λ c. search needs) (λ c. search needs) (λ c. search needs) (apply-tags-loop-again-27 t) (λ c κs. omega (arith, c .before .before .before .before .loop .inv .end, c .before .before .before .loop-test .taken, c .before .before .before .before .before .before .pre)) (λ c κs. search needs) (λ c κs. search needs) (λ c. search needs) (λ c. search needs) (λ c. search needs) (apply-tags-loop-again-28 t) (λ c κs. omega (arith, c .before .before .before .before .loop .inv .end, c .before .before .before .loop-test .taken, c .before .before .before .before .before .before .pre)) (λ c κs. search needs) (λ c κs. search needs) (λ c. search needs) (λ c. search needs) (λ c. search needs) (apply-tags-loop-again-29 t) (λ c κs. search needs) (λ c. search needs) (λ c. search needs) (λ c. search needs) (apply-tags-loop-again-30 t) (λ c κs. search needs) (λ c. search needs) (λ c. search needs) (λ c. search needs) (apply-tags-loop-again-31 t) (λ c κs. search needs) (λ c. search needs) (λ c. search needs) (λ c. search needs) (apply-tags-loop-again-32 t) (λ c κs. search needs) (λ c. search needs) (λ c. search needs) (λ c. search needs) (apply-tags-loop-again-33 t) (λ c κs. search needs) (λ c. search needs) (λ c. search needs) (λ c. search needs) (apply-tags-loop-again-34 t) (λ c κs. search needs) (λ c κs. search needs) (λ c. search needs) (λ c. search needs) (λ c. search needs) (apply-tags-loop-again-35 t) (λ c κs. search needs) (λ c. search needs) (λ c. search needs) (λ c. search needs) (apply-tags-loop-again-36 t) (λ c κs. search needs) (λ c. search needs) (λ c. search needs) (λ c. search needs) (apply-tags-loop-again-37 t) (λ c κs. search needs) (λ c κs. search needs) (λ c. search needs) (λ c. search needs) (λ c. search needs) (apply-tags-loop-again-38 t) (λ c κs. omega (arith, c .before .before .before .before .loop .inv .end, c .before .before .before .loop-test .taken, c .before .before .before .before .before .before .pre)) (λ c κs. search needs) (λ c κs. search needs) (λ c. search needs) (λ c. search needs) (λ c. search needs) (apply-tags-loop-again-39 t) (λ c κs. search needs) (λ c κs. search needs) (λ c. search needs) (λ c. search needs) (λ c. search needs) (apply-tags-loop-again-40 t) (λ c κs. search needs) (λ c κs. search needs) (λ c κs. search needs) (λ c. omega (arith, c .before .before .before .before .before .before .before .loop .inv .end, c .before .before .before .before .before .before .loop-test .taken, c .before .before .before .before .before .before .before .before .before .pre, c .before .before .before .before .before .before .before .before .before .good .0)) (λ c. omega (arith, c .before .before .before .before .before .before .before .loop .inv .end, c .before .before .before .before .before .before .loop-test .taken, c .before .before .before .before .before .before .before .before .before .pre, c .before .before .before .before .before .before .before .before .before .good .0)) (λ c. omega (arith, c .before .before .before .before .before .before .before .loop .inv .end, c .before .before .before .before .before .before .loop-test .taken, c .before .before .before .before .before .before .before .before .before .pre, c .before .before .before .before .before .before .before .before .before .good .0)) (apply-tags-loop-again-41 t) (λ c κs. search needs) (λ c κs. search needs) (λ c. search needs) (λ c. search needs) (λ c. search needs) (apply-tags-loop-again-42 t) (λ c κs. search needs) (λ c κs. search needs) (λ c. search needs) (λ c. search needs) (λ c. search needs) (apply-tags-loop-again-43 t) (λ c κs. search needs) (λ c κs. search needs) (λ c. search needs) (λ c. search needs) (λ c. search needs) (apply-tags-loop-again-44 t) (λ c κs. search needs) (λ c κs. search needs) (λ c. search needs) (λ c. search needs) (λ c. search needs) (apply-tags-loop-again-45 t) (λ c. search needs) (λ c. search needs) (λ c. search needs) (apply-tags-loop-again-46 t) (λ c κs. search needs) (λ c κs. search needs) (λ c. search needs) (λ c. search needs) (λ c. search needs) (apply-tags-loop-again-47 t) (λ c κs. search needs) (λ c κs. search needs) (λ c. search needs) (λ c. search needs) (λ c. search needs) (apply-tags-loop-again-48 t) (λ c. search needs) (λ c κs. search needs) (λ c. search needs) (λ c κs. search needs) (λ c κs. search needs) (λ c κs. search needs) (apply-tags-add-at-49 t) (apply-tags-sub-left-49 t) (apply-tags-loop-less-49 t) (apply-tags-loop-again-49 t) (λ c. search needs) (λ c. search needs) (λ c. search needs) (apply-tags-loop-again-50 t) (apply-tags-returns t))

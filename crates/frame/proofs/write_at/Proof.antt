@@ -15,6 +15,7 @@ use Rattle.apply.specs.Inner.{resetBy}
 use Rattle.table.proofs.ByKind.{unjoined}
 use Rattle.ramp.proofs.Ints.{answered}
 use Rattle.words.proofs.Laws.{whole}
+use Rattle.evaluate.proofs.Arms.{around-is}
 use Rattle.frame.proofs.Checking.{Checking, refused, framed, start, one, room, kind-refused, kind-next, none-refused, t-refused, t-next, end-refused, end-state}
 use Rattle.frame.proofs.write_at.Statement.{statement}
 use Rattle.frame.proofs.write_at.Tie as tie
@@ -42,7 +43,7 @@ returns-2 c = refused (kind-refused (c .before .before .before .before .before .
 
 loop-again-2 : tie.Need-loop-again-2 Inv-loop μ-loop
 unfolding applyOwn decodeOne decoders inRange rows
-loop-again-2 c = kind-next (c .before .before .before .before .before .before .before .before .loop .inv) (c .before .before .before .before .before .before .before .loop-test .taken) 2 (c .before .before .before .before .before .before .record-at .ensures) (c .before .before .before .before .before .match .keys2) (unjoined (c .before .before .before .before .fade-fits .ensures)) refl (not-false _ (c .before .before .before .if2 .left)) (ap (withAlways (c .before .before .before .before .before .before .before .before .loop .post)) (sym (rw (c .before .record-at3 .ensures ∙ sym (c .before .before .before .before .before .before .record-at .ensures)) at (c .fade .ensures))))
+loop-again-2 c = kind-next (c .before .before .before .before .before .before .before .before .loop .inv) (c .before .before .before .before .before .before .before .loop-test .taken) 2 (c .before .before .before .before .before .before .record-at .ensures) (c .before .before .before .before .before .match .keys2) (unjoined (c .before .before .before .before .fade-fits .ensures)) refl (not-false _ (c .before .before .before .if2 .left)) (ap (withAlways (c .before .before .before .before .before .before .before .before .loop .post)) (sym (rw (c .before .before .fade-by .ensures) at (c .faded .ensures))))
 
 returns-3 : tie.Need-returns-3 Inv-loop μ-loop
 unfolding inRange rows
@@ -58,7 +59,7 @@ returns-4 c = refused (kind-refused (c .before .before .before .before .before .
 
 loop-again-4 : tie.Need-loop-again-4 Inv-loop μ-loop
 unfolding applyOwn decodeOne decoders inRange rows
-loop-again-4 c = kind-next (c .before .before .before .before .before .before .before .before .before .loop .inv) (c .before .before .before .before .before .before .before .before .loop-test .taken) 4 (c .before .before .before .before .before .before .before .record-at .ensures) (c .before .before .before .before .before .before .match .keys4) (c .before .before .before .before .before .move-fits .ensures) refl (not-false _ (c .before .before .before .before .if4 .left)) (ap (withPlaces (c .before .before .before .before .before .before .before .before .before .loop .post)) (sym (rw (c .before .moved .ensures, c .before .before .record-at4 .ensures ∙ sym (c .before .before .before .before .before .before .before .record-at .ensures)) at (c .set-translate2 .ensures))))
+loop-again-4 c = kind-next (c .before .before .before .before .before .before .before .before .before .loop .inv) (c .before .before .before .before .before .before .before .before .loop-test .taken) 4 (c .before .before .before .before .before .before .before .record-at .ensures) (c .before .before .before .before .before .before .match .keys4) (c .before .before .before .before .before .move-fits .ensures) refl (not-false _ (c .before .before .before .before .if4 .left)) (ap (withPlaces (c .before .before .before .before .before .before .before .before .before .loop .post)) (sym (rw (c .before .moved .ensures, c .before .before .before .progress .ensures) at (c .set-translate2 .ensures))))
 
 returns-5 : tie.Need-returns-5 Inv-loop μ-loop
 unfolding inRange rows
@@ -98,7 +99,7 @@ returns-9 c = refused (kind-refused (c .before .before .before .before .before .
 
 loop-again-9 : tie.Need-loop-again-9 Inv-loop μ-loop
 unfolding applyOwn decodeOne decoders inRange rows
-loop-again-9 c = kind-next (c .before .before .before .before .before .before .before .before .before .loop .inv) (c .before .before .before .before .before .before .before .before .loop-test .taken) 9 (c .before .before .before .before .before .before .before .record-at .ensures) (c .before .before .before .before .before .before .match .keys9) (unjoined (c .before .before .before .before .before .colour-fits .ensures)) refl (not-false _ (c .before .before .before .before .if9 .left)) (ap (withColors (c .before .before .before .before .before .before .before .before .before .loop .post)) (sym (rw (c .before .some-rgb .ensures, c .before .before .record-at5 .ensures ∙ sym (c .before .before .before .before .before .before .before .record-at .ensures)) at (c .set-primary-color .ensures))))
+loop-again-9 c = kind-next (c .before .before .before .before .before .before .before .before .before .loop .inv) (c .before .before .before .before .before .before .before .before .loop-test .taken) 9 (c .before .before .before .before .before .before .before .record-at .ensures) (c .before .before .before .before .before .before .match .keys9) (unjoined (c .before .before .before .before .before .colour-fits .ensures)) refl (not-false _ (c .before .before .before .before .if9 .left)) (ap (withColors (c .before .before .before .before .before .before .before .before .before .loop .post)) (sym (rw (c .before .some-rgb .ensures, c .before .before .record-at3 .ensures ∙ sym (c .before .before .before .before .before .before .before .record-at .ensures)) at (c .set-primary-color .ensures))))
 
 returns-10 : tie.Need-returns-10 Inv-loop μ-loop
 unfolding inRange rows
@@ -114,7 +115,7 @@ returns-11 c = refused (kind-refused (c .before .before .before .before .before 
 
 loop-again-11 : tie.Need-loop-again-11 Inv-loop μ-loop
 unfolding applyOwn decodeOne decoders inRange rows
-loop-again-11 c = kind-next (c .before .before .before .before .before .before .before .before .before .loop .inv) (c .before .before .before .before .before .before .before .before .loop-test .taken) 11 (c .before .before .before .before .before .before .before .record-at .ensures) (c .before .before .before .before .before .before .match .keys11) (unjoined (c .before .before .before .before .before .rect-fits .ensures)) refl (not-false _ (c .before .before .before .before .if11 .left)) (ap (withClips (c .before .before .before .before .before .before .before .before .before .loop .post)) (sym (rw (c .before .some-rect .ensures, c .before .before .record-at6 .ensures ∙ sym (c .before .before .before .before .before .before .before .record-at .ensures)) at (c .set-clip-rect .ensures))))
+loop-again-11 c = kind-next (c .before .before .before .before .before .before .before .before .before .loop .inv) (c .before .before .before .before .before .before .before .before .loop-test .taken) 11 (c .before .before .before .before .before .before .before .record-at .ensures) (c .before .before .before .before .before .before .match .keys11) (unjoined (c .before .before .before .before .before .rect-fits .ensures)) refl (not-false _ (c .before .before .before .before .if11 .left)) (ap (withClips (c .before .before .before .before .before .before .before .before .before .loop .post)) (sym (rw (c .before .some-rect .ensures, c .before .before .record-at4 .ensures ∙ sym (c .before .before .before .before .before .before .before .record-at .ensures)) at (c .set-clip-rect .ensures))))
 
 returns-12 : tie.Need-returns-12 Inv-loop μ-loop
 unfolding inRange rows
@@ -162,7 +163,7 @@ returns-17 c = refused (kind-refused (c .before .before .before .before .before 
 
 loop-again-17 : tie.Need-loop-again-17 Inv-loop μ-loop
 unfolding applyOwn decodeOne decoders inRange rows
-loop-again-17 c = kind-next (c .before .before .before .before .before .before .before .before .before .loop .inv) (c .before .before .before .before .before .before .before .before .loop-test .taken) 17 (c .before .before .before .before .before .before .before .record-at .ensures) (c .before .before .before .before .before .before .match .keys17) (unjoined (c .before .before .before .before .before .float-fits9 .ensures)) refl (not-false _ (c .before .before .before .before .if17 .left)) (ap (withPlaces (c .before .before .before .before .before .before .before .before .before .loop .post)) (sym (rw (c .before .with-x .ensures, c .before .before .above-zero3 .ensures) at (c .set-border2 .ensures))))
+loop-again-17 c = kind-next (c .before .before .before .before .before .before .before .before .before .before .loop .inv) (c .before .before .before .before .before .before .before .before .before .loop-test .taken) 17 (c .before .before .before .before .before .before .before .before .record-at .ensures) (c .before .before .before .before .before .before .before .match .keys17) (unjoined (c .before .before .before .before .before .before .float-fits9 .ensures)) refl (not-false _ (c .before .before .before .before .before .if17 .left)) (ap (withPlaces (c .before .before .before .before .before .before .before .before .before .before .loop .post)) (sym (rw (c .before .with-x .ensures, c .before .before .above-zero3 .ensures) at (c .set-border2 .ensures))))
 
 returns-18 : tie.Need-returns-18 Inv-loop μ-loop
 unfolding inRange rows
@@ -170,7 +171,7 @@ returns-18 c = refused (kind-refused (c .before .before .before .before .before 
 
 loop-again-18 : tie.Need-loop-again-18 Inv-loop μ-loop
 unfolding applyOwn decodeOne decoders inRange rows
-loop-again-18 c = kind-next (c .before .before .before .before .before .before .before .before .before .loop .inv) (c .before .before .before .before .before .before .before .before .loop-test .taken) 18 (c .before .before .before .before .before .before .before .record-at .ensures) (c .before .before .before .before .before .before .match .keys18) (unjoined (c .before .before .before .before .before .float-fits10 .ensures)) refl (not-false _ (c .before .before .before .before .if18 .left)) (ap (withPlaces (c .before .before .before .before .before .before .before .before .before .loop .post)) (sym (rw (c .before .with-y .ensures, c .before .before .above-zero4 .ensures) at (c .set-border3 .ensures))))
+loop-again-18 c = kind-next (c .before .before .before .before .before .before .before .before .before .before .loop .inv) (c .before .before .before .before .before .before .before .before .before .loop-test .taken) 18 (c .before .before .before .before .before .before .before .before .record-at .ensures) (c .before .before .before .before .before .before .before .match .keys18) (unjoined (c .before .before .before .before .before .before .float-fits10 .ensures)) refl (not-false _ (c .before .before .before .before .before .if18 .left)) (ap (withPlaces (c .before .before .before .before .before .before .before .before .before .before .loop .post)) (sym (rw (c .before .with-y .ensures, c .before .before .above-zero4 .ensures) at (c .set-border3 .ensures))))
 
 returns-19 : tie.Need-returns-19 Inv-loop μ-loop
 unfolding inRange rows
@@ -186,7 +187,7 @@ returns-20 c = refused (kind-refused (c .before .before .before .before .before 
 
 loop-again-20 : tie.Need-loop-again-20 Inv-loop μ-loop
 unfolding applyOwn decodeOne decoders inRange rows
-loop-again-20 c = kind-next (c .before .before .before .before .before .before .before .before .before .loop .inv) (c .before .before .before .before .before .before .before .before .loop-test .taken) 20 (c .before .before .before .before .before .before .before .record-at .ensures) (c .before .before .before .before .before .before .match .keys20) (unjoined (c .before .before .before .before .before .float-fits12 .ensures)) refl (not-false _ (c .before .before .before .before .if20 .left)) (ap (withPlaces (c .before .before .before .before .before .before .before .before .before .loop .post)) (sym (rw (c .before .with-x2 .ensures, c .before .before .f32-of-word .ensures) at (c .set-shadow2 .ensures))))
+loop-again-20 c = kind-next (c .before .before .before .before .before .before .before .before .before .before .loop .inv) (c .before .before .before .before .before .before .before .before .before .loop-test .taken) 20 (c .before .before .before .before .before .before .before .before .record-at .ensures) (c .before .before .before .before .before .before .before .match .keys20) (unjoined (c .before .before .before .before .before .before .float-fits12 .ensures)) refl (not-false _ (c .before .before .before .before .before .if20 .left)) (ap (withPlaces (c .before .before .before .before .before .before .before .before .before .before .loop .post)) (sym (rw (c .before .with-x2 .ensures, c .before .before .f32-of-word .ensures) at (c .set-shadow2 .ensures))))
 
 returns-21 : tie.Need-returns-21 Inv-loop μ-loop
 unfolding inRange rows
@@ -194,7 +195,7 @@ returns-21 c = refused (kind-refused (c .before .before .before .before .before 
 
 loop-again-21 : tie.Need-loop-again-21 Inv-loop μ-loop
 unfolding applyOwn decodeOne decoders inRange rows
-loop-again-21 c = kind-next (c .before .before .before .before .before .before .before .before .before .loop .inv) (c .before .before .before .before .before .before .before .before .loop-test .taken) 21 (c .before .before .before .before .before .before .before .record-at .ensures) (c .before .before .before .before .before .before .match .keys21) (unjoined (c .before .before .before .before .before .float-fits13 .ensures)) refl (not-false _ (c .before .before .before .before .if21 .left)) (ap (withPlaces (c .before .before .before .before .before .before .before .before .before .loop .post)) (sym (rw (c .before .with-y2 .ensures, c .before .before .f32-of-word2 .ensures) at (c .set-shadow3 .ensures))))
+loop-again-21 c = kind-next (c .before .before .before .before .before .before .before .before .before .before .loop .inv) (c .before .before .before .before .before .before .before .before .before .loop-test .taken) 21 (c .before .before .before .before .before .before .before .before .record-at .ensures) (c .before .before .before .before .before .before .before .match .keys21) (unjoined (c .before .before .before .before .before .before .float-fits13 .ensures)) refl (not-false _ (c .before .before .before .before .before .if21 .left)) (ap (withPlaces (c .before .before .before .before .before .before .before .before .before .before .loop .post)) (sym (rw (c .before .with-y2 .ensures, c .before .before .f32-of-word2 .ensures) at (c .set-shadow3 .ensures))))
 
 returns-22 : tie.Need-returns-22 Inv-loop μ-loop
 unfolding inRange rows
@@ -226,7 +227,7 @@ returns-25 c = refused (kind-refused (c .before .before .before .before .before 
 
 loop-again-25 : tie.Need-loop-again-25 Inv-loop μ-loop
 unfolding applyOwn decodeOne decoders inRange rows
-loop-again-25 c = kind-next (c .before .before .before .before .before .before .before .before .before .loop .inv) (c .before .before .before .before .before .before .before .before .loop-test .taken) 25 (c .before .before .before .before .before .before .before .record-at .ensures) (c .before .before .before .before .before .before .match .keys25) (unjoined (c .before .before .before .before .before .rect-fits2 .ensures)) refl (not-false _ (c .before .before .before .before .if25 .left)) (ap (withClips (c .before .before .before .before .before .before .before .before .before .loop .post)) (sym (rw (c .before .some-rect2 .ensures, c .before .before .record-at7 .ensures ∙ sym (c .before .before .before .before .before .before .before .record-at .ensures)) at (c .set-iclip-rect .ensures))))
+loop-again-25 c = kind-next (c .before .before .before .before .before .before .before .before .before .loop .inv) (c .before .before .before .before .before .before .before .before .loop-test .taken) 25 (c .before .before .before .before .before .before .before .record-at .ensures) (c .before .before .before .before .before .before .match .keys25) (unjoined (c .before .before .before .before .before .rect-fits2 .ensures)) refl (not-false _ (c .before .before .before .before .if25 .left)) (ap (withClips (c .before .before .before .before .before .before .before .before .before .loop .post)) (sym (rw (c .before .some-rect2 .ensures, c .before .before .record-at5 .ensures ∙ sym (c .before .before .before .before .before .before .before .record-at .ensures)) at (c .set-iclip-rect .ensures))))
 
 returns-26 : tie.Need-returns-26 Inv-loop μ-loop
 unfolding inRange rows
@@ -242,7 +243,7 @@ returns-27 c = refused (kind-refused (c .before .before .before .before .before 
 
 loop-again-27 : tie.Need-loop-again-27 Inv-loop μ-loop
 unfolding applyOwn decodeOne decoders inRange rows
-loop-again-27 c = kind-next (c .before .before .before .before .before .before .before .before .before .loop .inv) (c .before .before .before .before .before .before .before .before .loop-test .taken) 27 (c .before .before .before .before .before .before .before .record-at .ensures) (c .before .before .before .before .before .before .match .keys27) (unjoined (c .before .before .before .before .before .colour-fits2 .ensures)) refl (not-false _ (c .before .before .before .before .if27 .left)) (ap (withColors (c .before .before .before .before .before .before .before .before .before .loop .post)) (sym (rw (c .before .some-rgb2 .ensures, c .before .before .record-at8 .ensures ∙ sym (c .before .before .before .before .before .before .before .record-at .ensures)) at (c .set-secondary-color .ensures))))
+loop-again-27 c = kind-next (c .before .before .before .before .before .before .before .before .before .loop .inv) (c .before .before .before .before .before .before .before .before .loop-test .taken) 27 (c .before .before .before .before .before .before .before .record-at .ensures) (c .before .before .before .before .before .before .match .keys27) (unjoined (c .before .before .before .before .before .colour-fits2 .ensures)) refl (not-false _ (c .before .before .before .before .if27 .left)) (ap (withColors (c .before .before .before .before .before .before .before .before .before .loop .post)) (sym (rw (c .before .some-rgb2 .ensures, c .before .before .record-at6 .ensures ∙ sym (c .before .before .before .before .before .before .before .record-at .ensures)) at (c .set-secondary-color .ensures))))
 
 returns-28 : tie.Need-returns-28 Inv-loop μ-loop
 unfolding inRange rows
@@ -250,7 +251,7 @@ returns-28 c = refused (kind-refused (c .before .before .before .before .before 
 
 loop-again-28 : tie.Need-loop-again-28 Inv-loop μ-loop
 unfolding applyOwn decodeOne decoders inRange rows
-loop-again-28 c = kind-next (c .before .before .before .before .before .before .before .before .before .loop .inv) (c .before .before .before .before .before .before .before .before .loop-test .taken) 28 (c .before .before .before .before .before .before .before .record-at .ensures) (c .before .before .before .before .before .before .match .keys28) (unjoined (c .before .before .before .before .before .colour-fits3 .ensures)) refl (not-false _ (c .before .before .before .before .if28 .left)) (ap (withColors (c .before .before .before .before .before .before .before .before .before .loop .post)) (sym (rw (c .before .some-rgb3 .ensures, c .before .before .record-at9 .ensures ∙ sym (c .before .before .before .before .before .before .before .record-at .ensures)) at (c .set-outline-color .ensures))))
+loop-again-28 c = kind-next (c .before .before .before .before .before .before .before .before .before .loop .inv) (c .before .before .before .before .before .before .before .before .loop-test .taken) 28 (c .before .before .before .before .before .before .before .record-at .ensures) (c .before .before .before .before .before .before .match .keys28) (unjoined (c .before .before .before .before .before .colour-fits3 .ensures)) refl (not-false _ (c .before .before .before .before .if28 .left)) (ap (withColors (c .before .before .before .before .before .before .before .before .before .loop .post)) (sym (rw (c .before .some-rgb3 .ensures, c .before .before .record-at7 .ensures ∙ sym (c .before .before .before .before .before .before .before .record-at .ensures)) at (c .set-outline-color .ensures))))
 
 returns-29 : tie.Need-returns-29 Inv-loop μ-loop
 unfolding inRange rows
@@ -258,7 +259,7 @@ returns-29 c = refused (kind-refused (c .before .before .before .before .before 
 
 loop-again-29 : tie.Need-loop-again-29 Inv-loop μ-loop
 unfolding applyOwn decodeOne decoders inRange rows
-loop-again-29 c = kind-next (c .before .before .before .before .before .before .before .before .before .loop .inv) (c .before .before .before .before .before .before .before .before .loop-test .taken) 29 (c .before .before .before .before .before .before .before .record-at .ensures) (c .before .before .before .before .before .before .match .keys29) (unjoined (c .before .before .before .before .before .colour-fits4 .ensures)) refl (not-false _ (c .before .before .before .before .if29 .left)) (ap (withColors (c .before .before .before .before .before .before .before .before .before .loop .post)) (sym (rw (c .before .some-rgb4 .ensures, c .before .before .record-at10 .ensures ∙ sym (c .before .before .before .before .before .before .before .record-at .ensures)) at (c .set-shadow-color .ensures))))
+loop-again-29 c = kind-next (c .before .before .before .before .before .before .before .before .before .loop .inv) (c .before .before .before .before .before .before .before .before .loop-test .taken) 29 (c .before .before .before .before .before .before .before .record-at .ensures) (c .before .before .before .before .before .before .match .keys29) (unjoined (c .before .before .before .before .before .colour-fits4 .ensures)) refl (not-false _ (c .before .before .before .before .if29 .left)) (ap (withColors (c .before .before .before .before .before .before .before .before .before .loop .post)) (sym (rw (c .before .some-rgb4 .ensures, c .before .before .record-at8 .ensures ∙ sym (c .before .before .before .before .before .before .before .record-at .ensures)) at (c .set-shadow-color .ensures))))
 
 returns-30 : tie.Need-returns-30 Inv-loop μ-loop
 unfolding inRange rows
@@ -274,7 +275,7 @@ returns-31 c = refused (kind-refused (c .before .before .before .before .before 
 
 loop-again-31 : tie.Need-loop-again-31 Inv-loop μ-loop
 unfolding applyOwn decodeOne decoders inRange rows
-loop-again-31 c = kind-next (c .before .before .before .before .before .before .before .before .loop .inv) (c .before .before .before .before .before .before .before .loop-test .taken) 31 (c .before .before .before .before .before .before .record-at .ensures) (c .before .before .before .before .before .match .keys31) (unjoined (c .before .before .before .before .number-fits3 .ensures)) refl (not-false _ (c .before .before .before .if31 .left)) (ap (withAlphas (c .before .before .before .before .before .before .before .before .loop .post)) (sym (rw (c .before .some-u8 .ensures) at (c .set-primary-alpha .ensures))))
+loop-again-31 c = kind-next (c .before .before .before .before .before .before .before .loop .inv) (c .before .before .before .before .before .before .loop-test .taken) 31 (c .before .before .before .before .before .record-at .ensures) (c .before .before .before .before .match .keys31) (unjoined (c .before .before .before .number-fits3 .ensures)) refl (not-false _ (c .before .before .if31 .left)) (sym (rw (c .alpha .ensures)))
 
 returns-32 : tie.Need-returns-32 Inv-loop μ-loop
 unfolding inRange rows
@@ -282,7 +283,7 @@ returns-32 c = refused (kind-refused (c .before .before .before .before .before 
 
 loop-again-32 : tie.Need-loop-again-32 Inv-loop μ-loop
 unfolding applyOwn decodeOne decoders inRange rows
-loop-again-32 c = kind-next (c .before .before .before .before .before .before .before .before .loop .inv) (c .before .before .before .before .before .before .before .loop-test .taken) 32 (c .before .before .before .before .before .before .record-at .ensures) (c .before .before .before .before .before .match .keys32) (unjoined (c .before .before .before .before .number-fits4 .ensures)) refl (not-false _ (c .before .before .before .if32 .left)) (ap (withAlphas (c .before .before .before .before .before .before .before .before .loop .post)) (sym (rw (c .before .some-u82 .ensures) at (c .set-secondary-alpha .ensures))))
+loop-again-32 c = kind-next (c .before .before .before .before .before .before .before .loop .inv) (c .before .before .before .before .before .before .loop-test .taken) 32 (c .before .before .before .before .before .record-at .ensures) (c .before .before .before .before .match .keys32) (unjoined (c .before .before .before .number-fits4 .ensures)) refl (not-false _ (c .before .before .if32 .left)) (sym (rw (c .alpha2 .ensures)))
 
 returns-33 : tie.Need-returns-33 Inv-loop μ-loop
 unfolding inRange rows
@@ -290,7 +291,7 @@ returns-33 c = refused (kind-refused (c .before .before .before .before .before 
 
 loop-again-33 : tie.Need-loop-again-33 Inv-loop μ-loop
 unfolding applyOwn decodeOne decoders inRange rows
-loop-again-33 c = kind-next (c .before .before .before .before .before .before .before .before .loop .inv) (c .before .before .before .before .before .before .before .loop-test .taken) 33 (c .before .before .before .before .before .before .record-at .ensures) (c .before .before .before .before .before .match .keys33) (unjoined (c .before .before .before .before .number-fits5 .ensures)) refl (not-false _ (c .before .before .before .if33 .left)) (ap (withAlphas (c .before .before .before .before .before .before .before .before .loop .post)) (sym (rw (c .before .some-u83 .ensures) at (c .set-outline-alpha .ensures))))
+loop-again-33 c = kind-next (c .before .before .before .before .before .before .before .loop .inv) (c .before .before .before .before .before .before .loop-test .taken) 33 (c .before .before .before .before .before .record-at .ensures) (c .before .before .before .before .match .keys33) (unjoined (c .before .before .before .number-fits5 .ensures)) refl (not-false _ (c .before .before .if33 .left)) (sym (rw (c .alpha3 .ensures)))
 
 returns-34 : tie.Need-returns-34 Inv-loop μ-loop
 unfolding inRange rows
@@ -298,7 +299,7 @@ returns-34 c = refused (kind-refused (c .before .before .before .before .before 
 
 loop-again-34 : tie.Need-loop-again-34 Inv-loop μ-loop
 unfolding applyOwn decodeOne decoders inRange rows
-loop-again-34 c = kind-next (c .before .before .before .before .before .before .before .before .loop .inv) (c .before .before .before .before .before .before .before .loop-test .taken) 34 (c .before .before .before .before .before .before .record-at .ensures) (c .before .before .before .before .before .match .keys34) (unjoined (c .before .before .before .before .number-fits6 .ensures)) refl (not-false _ (c .before .before .before .if34 .left)) (ap (withAlphas (c .before .before .before .before .before .before .before .before .loop .post)) (sym (rw (c .before .some-u84 .ensures) at (c .set-shadow-alpha .ensures))))
+loop-again-34 c = kind-next (c .before .before .before .before .before .before .before .loop .inv) (c .before .before .before .before .before .before .loop-test .taken) 34 (c .before .before .before .before .before .record-at .ensures) (c .before .before .before .before .match .keys34) (unjoined (c .before .before .before .number-fits6 .ensures)) refl (not-false _ (c .before .before .if34 .left)) (sym (rw (c .alpha4 .ensures)))
 
 returns-35 : tie.Need-returns-35 Inv-loop μ-loop
 unfolding inRange rows
@@ -338,7 +339,7 @@ returns-39 c = refused (kind-refused (c .before .before .before .before .before 
 
 loop-again-39 : tie.Need-loop-again-39 Inv-loop μ-loop
 unfolding applyOwn decodeOne decoders inRange rows
-loop-again-39 c = kind-next (c .before .before .before .before .before .before .before .before .before .loop .inv) (c .before .before .before .before .before .before .before .before .loop-test .taken) 39 (c .before .before .before .before .before .before .before .record-at .ensures) (c .before .before .before .before .before .before .match .keys39) (c .before .before .before .before .before .font-fits .ensures) refl (not-false _ (c .before .before .before .before .if39 .left)) (ap (withFont (c .before .before .before .before .before .before .before .before .before .loop .post)) (sym (rw (c .before .some-name .ensures, c .before .before .record-at11 .ensures ∙ sym (c .before .before .before .before .before .before .before .record-at .ensures)) at (c .set-font-name .ensures))))
+loop-again-39 c = kind-next (c .before .before .before .before .before .before .before .before .before .loop .inv) (c .before .before .before .before .before .before .before .before .loop-test .taken) 39 (c .before .before .before .before .before .before .before .record-at .ensures) (c .before .before .before .before .before .before .match .keys39) (c .before .before .before .before .before .font-fits .ensures) refl (not-false _ (c .before .before .before .before .if39 .left)) (ap (withFont (c .before .before .before .before .before .before .before .before .before .loop .post)) (sym (rw (c .before .some-name .ensures, c .before .before .record-at9 .ensures ∙ sym (c .before .before .before .before .before .before .before .record-at .ensures)) at (c .set-font-name .ensures))))
 
 returns-40 : tie.Need-returns-40 Inv-loop μ-loop
 unfolding inRange rows
@@ -346,7 +347,7 @@ returns-40 c = refused (kind-refused (c .before .before .before .before .before 
 
 loop-again-40 : tie.Need-loop-again-40 Inv-loop μ-loop
 unfolding applyOwn decodeOne decoders inRange rows
-loop-again-40 c = kind-next (c .before .before .before .before .before .before .before .before .loop .inv) (c .before .before .before .before .before .before .before .loop-test .taken) 40 (c .before .before .before .before .before .before .record-at .ensures) (c .before .before .before .before .before .match .keys40) (unjoined (c .before .before .before .before .number-fits10 .ensures)) refl (not-false _ (c .before .before .before .if40 .left)) (ap (withFont (c .before .before .before .before .before .before .before .before .loop .post)) (sym (rw (c .before .some-u85 .ensures) at (c .set-font-encoding .ensures))))
+loop-again-40 c = kind-next (c .before .before .before .before .before .before .before .before .loop .inv) (c .before .before .before .before .before .before .before .loop-test .taken) 40 (c .before .before .before .before .before .before .record-at .ensures) (c .before .before .before .before .before .match .keys40) (unjoined (c .before .before .before .before .number-fits10 .ensures)) refl (not-false _ (c .before .before .before .if40 .left)) (ap (withFont (c .before .before .before .before .before .before .before .before .loop .post)) (sym (rw (c .before .some-u8 .ensures) at (c .set-font-encoding .ensures))))
 
 returns-41 : tie.Need-returns-41 Inv-loop μ-loop
 unfolding inRange rows
@@ -354,7 +355,7 @@ returns-41 c = refused (kind-refused (c .before .before .before .before .before 
 
 loop-again-41 : tie.Need-loop-again-41 Inv-loop μ-loop
 unfolding applyOwn decodeOne decoders inRange rows resetBy
-loop-again-41 c = kind-next (c .before .before .before .before .before .before .before .loop .inv) (c .before .before .before .before .before .before .loop-test .taken) 41 (c .before .before .before .before .before .record-at .ensures) (c .before .before .before .before .match .keys41) (c .before .before .before .reset-fits .ensures) refl (not-false _ (c .before .before .if41 .left)) (sym (rw (c .before .record-at12 .ensures ∙ sym (c .before .before .before .before .before .record-at .ensures)) at (c .reset .ensures)))
+loop-again-41 c = kind-next (c .before .before .before .before .before .before .before .before .before .loop .inv) (c .before .before .before .before .before .before .before .before .loop-test .taken) 41 (c .before .before .before .before .before .before .before .record-at .ensures) (c .before .before .before .before .before .before .match .keys41) (c .before .before .before .before .before .reset-fits .ensures) refl (not-false _ (c .before .before .before .before .if41 .left)) (sym (rw (c .set-reset-to-style .ensures, c .before .reset-of .ensures, c .before .before .s40 .given, c .before .before .before .identity2 .ensures)))
 
 returns-42 : tie.Need-returns-42 Inv-loop μ-loop
 unfolding inRange rows
@@ -410,13 +411,13 @@ returns-48 c = refused (kind-refused (c .before .before .before .before .before 
 
 loop-again-48 : tie.Need-loop-again-48 Inv-loop μ-loop
 unfolding applyOwn decodeOne decoders inRange rows
-loop-again-48 c = kind-next (c .before .before .before .before .before .before .before .before .loop .inv) (c .before .before .before .before .before .before .before .loop-test .taken) 48 (c .before .before .before .before .before .before .record-at .ensures) (c .before .before .before .before .before .match .keys48) (unjoined (c .before .before .before .before .number-fits14 .ensures)) refl (not-false _ (c .before .before .before .if48 .left)) (ap (withLine (c .before .before .before .before .before .before .before .before .loop .post)) (sym (rw (c .before .some-u86 .ensures) at (c .set-drawing-scale .ensures))))
+loop-again-48 c = kind-next (c .before .before .before .before .before .before .before .before .loop .inv) (c .before .before .before .before .before .before .before .loop-test .taken) 48 (c .before .before .before .before .before .before .record-at .ensures) (c .before .before .before .before .before .match .keys48) (unjoined (c .before .before .before .before .number-fits14 .ensures)) refl (not-false _ (c .before .before .before .if48 .left)) (ap (withLine (c .before .before .before .before .before .before .before .before .loop .post)) (sym (rw (c .before .some-u82 .ensures) at (c .set-drawing-scale .ensures))))
 
 returns-49 : tie.Need-returns-49 Inv-loop μ-loop
 returns-49 c = refused (t-refused (c .before .before .before .before .before .before .before .loop .inv) (c .before .before .before .before .before .before .loop-test .taken) (c .before .before .before .before .before .record-at .ensures) (c .before .before .before .before .match .keys49) (c .before .before .before .t-fault .ensures) _ _ (c .before .x .given .1))
 
 loop-again-49 : tie.Need-loop-again-49 Inv-loop μ-loop
-loop-again-49 c = t-next (c .before .before .before .before .before .before .before .before .loop .inv) (c .before .before .before .before .before .before .before .loop-test .taken) (c .before .before .before .before .before .before .record-at .ensures) (c .before .before .before .before .before .match .keys49) (c .before .before .before .before .t-fault .ensures) (c .before .before .enum-told .given .1) (c .before .inside .ensures) (c .apply-t .ensures)
+loop-again-49 c = t-next (c .before .before .before .before .before .before .before .before .before .before .loop .inv) (c .before .before .before .before .before .before .before .before .before .loop-test .taken) (c .before .before .before .before .before .before .before .before .record-at .ensures) (c .before .before .before .before .before .before .before .match .keys49) (c .before .before .before .before .before .before .t-fault .ensures) (c .before .before .before .before .enum-told .given .1) (c .before .before .before .inside .ensures) (around-is _ _ _ _ _ _ (c .before .before .before .before .before .before .before .before .record-at .ensures) (c .before .before .before .inside .ensures) (c .before .before .apply-tags .ensures) (c .before .factor .ensures) (c .mix-state .ensures))
 
 returns-50 : tie.Need-returns-50 Inv-loop μ-loop
 returns-50 c = refused (none-refused (c .before .before .before .loop .inv) (c .before .before .loop-test .taken) _ _ (c .before .record-at .ensures) (c .match .rest))
@@ -447,7 +448,7 @@ write-at-spec = tie.close (tie.spec Inv-loop μ-loop
     loop-again
     (λ c κs. search needs)
     returns-2
-    (λ c κs. one (c .before .before .before .before .before .before .loop .inv) (c .before .before .before .before .before .loop-test .taken))
+    (λ c κs. search needs)
     (λ c κs. search needs)
     (λ c. omega (arith, c .before .before .before .before .before .before .before .before .before .before .before .before .good .0, c .before .before .before .before .before .before .before .before .loop .inv .inside, c .before .before .before .before .before .before .before .loop-test .taken))
     (λ c. omega (arith, c .before .before .before .before .before .before .before .loop-test .taken))
@@ -461,7 +462,7 @@ write-at-spec = tie.close (tie.spec Inv-loop μ-loop
     loop-again-3
     (λ c κs. search needs)
     returns-4
-    (λ c κs. one (c .before .before .before .before .before .before .loop .inv) (c .before .before .before .before .before .loop-test .taken))
+    (λ c κs. search needs)
     (λ c κs. search needs)
     (λ c κs. search needs)
     (λ c. omega (arith, c .before .before .before .before .before .before .before .before .before .before .before .before .before .good .0, c .before .before .before .before .before .before .before .before .before .loop .inv .inside, c .before .before .before .before .before .before .before .before .loop-test .taken))
@@ -557,16 +558,16 @@ write-at-spec = tie.close (tie.spec Inv-loop μ-loop
     (λ c κs. search needs)
     (λ c κs. search needs)
     (λ c κs. search needs)
-    (λ c. omega (arith, c .before .before .before .before .before .before .before .before .before .before .before .before .before .good .0, c .before .before .before .before .before .before .before .before .before .loop .inv .inside, c .before .before .before .before .before .before .before .before .loop-test .taken))
-    (λ c. omega (arith, c .before .before .before .before .before .before .before .before .loop-test .taken))
+    (λ c. omega (arith, c .before .before .before .before .before .before .before .before .before .before .before .before .before .before .good .0, c .before .before .before .before .before .before .before .before .before .before .loop .inv .inside, c .before .before .before .before .before .before .before .before .before .loop-test .taken))
+    (λ c. omega (arith, c .before .before .before .before .before .before .before .before .before .loop-test .taken))
     loop-again-17
     (λ c κs. search needs)
     returns-18
     (λ c κs. search needs)
     (λ c κs. search needs)
     (λ c κs. search needs)
-    (λ c. omega (arith, c .before .before .before .before .before .before .before .before .before .before .before .before .before .good .0, c .before .before .before .before .before .before .before .before .before .loop .inv .inside, c .before .before .before .before .before .before .before .before .loop-test .taken))
-    (λ c. omega (arith, c .before .before .before .before .before .before .before .before .loop-test .taken))
+    (λ c. omega (arith, c .before .before .before .before .before .before .before .before .before .before .before .before .before .before .good .0, c .before .before .before .before .before .before .before .before .before .before .loop .inv .inside, c .before .before .before .before .before .before .before .before .before .loop-test .taken))
+    (λ c. omega (arith, c .before .before .before .before .before .before .before .before .before .loop-test .taken))
     loop-again-18
     (λ c κs. search needs)
     returns-19
@@ -581,16 +582,16 @@ write-at-spec = tie.close (tie.spec Inv-loop μ-loop
     (λ c κs. search needs)
     (λ c κs. search needs)
     (λ c κs. search needs)
-    (λ c. omega (arith, c .before .before .before .before .before .before .before .before .before .before .before .before .before .good .0, c .before .before .before .before .before .before .before .before .before .loop .inv .inside, c .before .before .before .before .before .before .before .before .loop-test .taken))
-    (λ c. omega (arith, c .before .before .before .before .before .before .before .before .loop-test .taken))
+    (λ c. omega (arith, c .before .before .before .before .before .before .before .before .before .before .before .before .before .before .good .0, c .before .before .before .before .before .before .before .before .before .before .loop .inv .inside, c .before .before .before .before .before .before .before .before .before .loop-test .taken))
+    (λ c. omega (arith, c .before .before .before .before .before .before .before .before .before .loop-test .taken))
     loop-again-20
     (λ c κs. search needs)
     returns-21
     (λ c κs. search needs)
     (λ c κs. search needs)
     (λ c κs. search needs)
-    (λ c. omega (arith, c .before .before .before .before .before .before .before .before .before .before .before .before .before .good .0, c .before .before .before .before .before .before .before .before .before .loop .inv .inside, c .before .before .before .before .before .before .before .before .loop-test .taken))
-    (λ c. omega (arith, c .before .before .before .before .before .before .before .before .loop-test .taken))
+    (λ c. omega (arith, c .before .before .before .before .before .before .before .before .before .before .before .before .before .before .good .0, c .before .before .before .before .before .before .before .before .before .before .loop .inv .inside, c .before .before .before .before .before .before .before .before .before .loop-test .taken))
+    (λ c. omega (arith, c .before .before .before .before .before .before .before .before .before .loop-test .taken))
     loop-again-21
     (λ c κs. search needs)
     returns-22
@@ -659,30 +660,26 @@ write-at-spec = tie.close (tie.spec Inv-loop μ-loop
     (λ c κs. search needs)
     returns-31
     (λ c κs. search needs)
-    (λ c κs. search needs)
-    (λ c. omega (arith, c .before .before .before .before .before .before .before .before .before .before .before .before .good .0, c .before .before .before .before .before .before .before .before .loop .inv .inside, c .before .before .before .before .before .before .before .loop-test .taken))
-    (λ c. omega (arith, c .before .before .before .before .before .before .before .loop-test .taken))
+    (λ c. omega (arith, c .before .before .before .before .before .before .before .before .before .before .before .good .0, c .before .before .before .before .before .before .before .loop .inv .inside, c .before .before .before .before .before .before .loop-test .taken))
+    (λ c. omega (arith, c .before .before .before .before .before .before .loop-test .taken))
     loop-again-31
     (λ c κs. search needs)
     returns-32
     (λ c κs. search needs)
-    (λ c κs. search needs)
-    (λ c. omega (arith, c .before .before .before .before .before .before .before .before .before .before .before .before .good .0, c .before .before .before .before .before .before .before .before .loop .inv .inside, c .before .before .before .before .before .before .before .loop-test .taken))
-    (λ c. omega (arith, c .before .before .before .before .before .before .before .loop-test .taken))
+    (λ c. omega (arith, c .before .before .before .before .before .before .before .before .before .before .before .good .0, c .before .before .before .before .before .before .before .loop .inv .inside, c .before .before .before .before .before .before .loop-test .taken))
+    (λ c. omega (arith, c .before .before .before .before .before .before .loop-test .taken))
     loop-again-32
     (λ c κs. search needs)
     returns-33
     (λ c κs. search needs)
-    (λ c κs. search needs)
-    (λ c. omega (arith, c .before .before .before .before .before .before .before .before .before .before .before .before .good .0, c .before .before .before .before .before .before .before .before .loop .inv .inside, c .before .before .before .before .before .before .before .loop-test .taken))
-    (λ c. omega (arith, c .before .before .before .before .before .before .before .loop-test .taken))
+    (λ c. omega (arith, c .before .before .before .before .before .before .before .before .before .before .before .good .0, c .before .before .before .before .before .before .before .loop .inv .inside, c .before .before .before .before .before .before .loop-test .taken))
+    (λ c. omega (arith, c .before .before .before .before .before .before .loop-test .taken))
     loop-again-33
     (λ c κs. search needs)
     returns-34
     (λ c κs. search needs)
-    (λ c κs. search needs)
-    (λ c. omega (arith, c .before .before .before .before .before .before .before .before .before .before .before .before .good .0, c .before .before .before .before .before .before .before .before .loop .inv .inside, c .before .before .before .before .before .before .before .loop-test .taken))
-    (λ c. omega (arith, c .before .before .before .before .before .before .before .loop-test .taken))
+    (λ c. omega (arith, c .before .before .before .before .before .before .before .before .before .before .before .good .0, c .before .before .before .before .before .before .before .loop .inv .inside, c .before .before .before .before .before .before .loop-test .taken))
+    (λ c. omega (arith, c .before .before .before .before .before .before .loop-test .taken))
     loop-again-34
     (λ c κs. search needs)
     returns-35
@@ -727,10 +724,11 @@ write-at-spec = tie.close (tie.spec Inv-loop μ-loop
     loop-again-40
     (λ c κs. search needs)
     returns-41
-    (λ c κs. one (c .before .before .before .before .before .loop .inv) (c .before .before .before .before .loop-test .taken))
     (λ c κs. search needs)
-    (λ c. omega (arith, c .before .before .before .before .before .before .before .before .before .before .before .good .0, c .before .before .before .before .before .before .before .loop .inv .inside, c .before .before .before .before .before .before .loop-test .taken))
-    (λ c. omega (arith, c .before .before .before .before .before .before .loop-test .taken))
+    (λ c κs. search needs)
+    (λ c κs. search needs)
+    (λ c. omega (arith, c .before .before .before .before .before .before .before .before .before .before .before .before .before .good .0, c .before .before .before .before .before .before .before .before .before .loop .inv .inside, c .before .before .before .before .before .before .before .before .loop-test .taken))
+    (λ c. omega (arith, c .before .before .before .before .before .before .before .before .loop-test .taken))
     loop-again-41
     (λ c κs. search needs)
     returns-42
@@ -787,9 +785,12 @@ write-at-spec = tie.close (tie.spec Inv-loop μ-loop
     (λ c. omega (arith, c .before .before .before .before .before .loop-test .taken))
     (λ c κs. search needs)
     (λ c. omega (arith, c .before .before .before .before .before .before .before .before .before .before .before .good .0, c .before .before .before .before .before .before .before .loop .inv .inside, c .before .before .before .before .before .before .loop-test .taken, c .inside .ensures))
-    (λ c κs. room (c .before .before .before .before .before .before .before .loop .inv) (c .before .before .before .before .before .before .loop-test .taken))
-    (λ c. omega (arith, c .before .before .before .before .before .before .before .before .before .before .before .before .good .0, c .before .before .before .before .before .before .before .before .loop .inv .inside, c .before .before .before .before .before .before .before .loop-test .taken, c .before .inside .ensures))
-    (λ c. omega (arith, c .before .before .before .before .before .before .before .before .before .before .before .before .good .0, c .before .before .before .before .before .before .before .before .loop .inv .inside, c .before .before .before .before .before .before .before .loop-test .taken, c .before .inside .ensures))
+    (λ c κs. omega (arith, c .before .before .before .before .before .before .before .before .before .before .before .good .0, c .before .before .before .before .before .before .before .loop .inv .inside, c .before .before .before .before .before .before .loop-test .taken, c .inside .ensures))
+    (λ c κs. search needs)
+    (λ c κs. search needs)
+    (λ c. omega (arith, c .before .before .before .before .before .before .before .before .before .before .before .before .before .before .good .0, c .before .before .before .before .before .before .before .before .before .before .loop .inv .inside, c .before .before .before .before .before .before .before .before .before .loop-test .taken, c .before .before .before .inside .ensures))
+    (λ c. omega (arith, c .before .before .before .before .before .before .before .before .before .before .before .before .before .before .good .0, c .before .before .before .before .before .before .before .before .before .before .loop .inv .inside, c .before .before .before .before .before .before .before .before .before .loop-test .taken, c .before .before .before .inside .ensures))
+    (λ c. omega (arith, c .before .before .before .before .before .before .before .before .before .before .before .before .before .before .good .0, c .before .before .before .before .before .before .before .before .before .before .loop .inv .inside, c .before .before .before .before .before .before .before .before .before .loop-test .taken, c .before .before .before .inside .ensures))
     loop-again-49
     returns-50
     (λ c κs. search needs)

@@ -6,7 +6,7 @@ use Rattle.mix.proofs.mix_line.Tie as tie
 
 returns : tie.Need-returns
 unfolding mixLine ofBits
-returns c = rw (c .before .if1 .taken, c .kept-pivot .ensures)
+returns c = rw (c .before .before .before .before .before .before .before .before .before .if1 .taken, c .before .before .before .before .before .before .kept-pivot .ensures)
 
 returns-2 : tie.Need-returns-2
 unfolding mixLine ofBits
