@@ -19,7 +19,7 @@ use Rattle.tag.proofs.Decoding.{inside-one}
 use Rattle.state.specs.declared.RenderState.{RenderState}
 use Rattle.state.specs.Mix.{factor, between}
 use Rattle.state.specs.Apply.{applyOwn, applyTags}
-use Rattle.evaluate.specs.Inner.{recordFrom, tagsAt, insideOf, aroundOf}
+use Rattle.evaluate.specs.Inner.{recordFrom, tagsAt, insideOf}
 
 -- ---- more steps than records change nothing
 
@@ -148,18 +148,16 @@ module _ {t dur : ℤ} {ws : List ℕ} {first count : ℕ} {st : RenderState} wh
       let w : suc n - 1 ≡ n = omega arith in
       record { end = omega arith; less = omega (arith, l .less); state = rw w (ap (λ (s : RenderState). applyTags t dur (tagsAt ws (at + 1) n) s) (sym e) ∙ sym (plain-at t dur ws at n post h) ∙ l .state) }
 
-  -- a T
-  pub loop-around : {at left : ℕ} {post next : RenderState} → Looping t dur ws first count st at left post → 0 < left → recordFrom ws at .kind ≡ tKind →
-      next ≡ aroundOf t dur ws at left post → Looping t dur ws first count st (at + (1 + insideOf (recordFrom ws at) (left - 1))) (left - (1 + insideOf (recordFrom ws at) (left - 1))) next
-  unfolding aroundOf
-  loop-around {left = zero} l z h e = absurd (omega arith)
-  loop-around {at = at} {left = suc n} {post = post} l z h e =
+  -- a T that holds no more records than are left
+  pub loop-around : {at left : ℕ} {post next : RenderState} → Looping t dur ws first count st at left post → 0 < left → recordFrom ws at .kind ≡ tKind → holds (recordFrom ws at) ≤ left - 1 →
+      next ≡ between (factor (timesOf (recordFrom ws at .w1) (recordFrom ws at .w2) (recordFrom ws at .w3)) (f (recordFrom ws at .w4)) t dur) post (applyTags t dur (tagsAt ws (at + 1) (holds (recordFrom ws at))) post) →
+      Looping t dur ws first count st (at + 1 + holds (recordFrom ws at)) (left - 1 - holds (recordFrom ws at)) next
+  loop-around {left = zero} l z h k e = absurd (omega arith)
+  loop-around {at = at} {left = suc n} {post = post} l z h k e =
       let w : suc n - 1 ≡ n = omega arith in
-      let m = insideOf (recordFrom ws at) n in
-      let p : at + (1 + m) ≡ at + 1 + m = omega arith in
-      let q : suc n - (1 + m) ≡ n - m = omega arith in
+      let m : insideOf (recordFrom ws at) n ≡ holds (recordFrom ws at) = omega (arith, k) in
       record {
-        end = rw w (omega (arith, l .end));
-        less = rw w (omega (arith, l .less));
-        state = rw (w, p, q, e, w) (sym (around-at t dur ws at n post h) ∙ l .state);
+        end = omega (arith, l .end, k);
+        less = omega (arith, l .less);
+        state = rw (w, e) (sym (rw m at (around-at t dur ws at n post h)) ∙ l .state);
       }

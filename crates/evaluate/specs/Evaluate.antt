@@ -1,4 +1,5 @@
--- What the call answers: 01, Evaluation, and grounds 5 and 6.
+-- What the calls answer: 01, Evaluation, and grounds 5 and 6.
+use mathlib.Core.Path.{_≡_}
 use mathlib.Core.List.{List}
 use Prim.Native.Nat.{ℕ}
 use lib.IntN.{ℤ}
@@ -10,6 +11,7 @@ use Rattle.table.specs.Ground.{callGround}
 use Rattle.state.specs.declared.RenderState.{RenderState}
 use Rattle.state.specs.State.{identity}
 use Rattle.state.specs.Apply.{evaluateAt}
+use Rattle.words.specs.Words.{stateWords}
 use Rattle.evaluate.specs.declared.Evaluated.{Evaluated}
 
 abbrev pub evaluatedOr : Checked → RenderState → Evaluated
@@ -33,3 +35,19 @@ groundPlace (Evaluated.Refused r) = placeOf r
 abbrev pub stateOf : Evaluated → RenderState
 stateOf (Evaluated.State st) = st
 stateOf (Evaluated.Refused r) = identity
+
+-- ---- as words
+
+abbrev pub groundOf : Evaluated → Checked
+groundOf (Evaluated.State st) = Good
+groundOf (Evaluated.Refused r) = Bad r
+
+-- the words of the state; on a refusal every old word
+abbrev pub stateAfter : Evaluated → List ℕ → List ℕ
+stateAfter (Evaluated.State st) v = stateWords st
+stateAfter (Evaluated.Refused r) v = v
+
+-- what the call says: the ground c, and the lent words v before and u after
+pub record InWords (ws : List ℕ) (t dur : ℤ) (v : List ℕ) (c : Checked) (u : List ℕ) : Type 0 where
+  pub ground : c ≡ groundOf (evaluated ws t dur)
+  pub state : u ≡ stateAfter (evaluated ws t dur) v

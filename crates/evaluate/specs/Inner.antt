@@ -1,16 +1,22 @@
--- The tags of a part of a table, in the code's words.
+-- The tags of a part of a table, and what the loop over its records leaves, in the code's words.
+use mathlib.Core.Path.{_≡_}
+use mathlib.Core.Bool.{Bool, true, false}
 use mathlib.Core.List.{List}
-use Prim.Native.Nat.{ℕ, _+_, _-_, _*_, min}
+use Prim.Native.Nat.{ℕ, zero, suc, _*_, min}
 use lib.IntN.{ℤ}
 use lib.ListN.{drop}
+use Rattle.refusal.specs.declared.Checked.{Checked}
+use Rattle.refusal.specs.declared.Checked.the-variants.{Good, Bad}
+use Rattle.refusal.specs.declared.Refusal.the-variants.{TableMalformed}
 use Rattle.tag.specs.declared.Record.{Record}
 use Rattle.tag.specs.Tag.{Tags}
 use Rattle.tag.specs.Table.{width}
-use Rattle.tag.specs.WellFormed.{recordAt, recordsTo, holds}
-use Rattle.tag.specs.Decode.{f, timesOf, decode}
+use Rattle.tag.specs.WellFormed.{recordAt, recordsTo, holds, fault}
+use Rattle.tag.specs.Decode.{decode}
+use Rattle.table.specs.Inner.{part}
 use Rattle.state.specs.declared.RenderState.{RenderState}
-use Rattle.state.specs.Mix.{factor, between}
 use Rattle.state.specs.Apply.{applyTags}
+use Rattle.words.specs.Words.{stateWords}
 
 -- the record with the index at
 abbrev pub recordFrom : List ℕ → ℕ → Record
@@ -24,13 +30,23 @@ tagsAt ws at n = decode (recordsTo n (drop (width * at) ws))
 abbrev pub insideOf : Record → ℕ → ℕ
 insideOf r n = min (holds r) n
 
--- what the tags inside the T with the index at make of a state, where n records stand from there on
-abbrev pub innerOf : ℤ → ℤ → List ℕ → ℕ → ℕ → RenderState → RenderState
-innerOf t dur ws at n st = applyTags t dur (tagsAt ws (at + 1) (insideOf (recordFrom ws at) (n - 1))) st
+abbrev pub isGood : Checked → Bool
+isGood Good = true
+isGood (Bad r) = false
 
--- what the T with the index at does, where n records stand from there on
-unfoldable pub aroundOf : ℤ → ℤ → List ℕ → ℕ → ℕ → RenderState → RenderState
-unfolding factor between applyTags
-aroundOf t dur ws at n st =
-    let r = recordFrom ws at in
-    between (factor (timesOf (r .w1) (r .w2) (r .w3)) (f (r .w4)) t dur) st (applyTags t dur (tagsAt ws (at + 1) (insideOf r (n - 1))) st)
+-- what the number in `fault` says: none at fault, or the one with the index n
+abbrev pub told : ℕ → Checked
+told zero = Good
+told (suc n) = Bad (TableMalformed n)
+
+-- the lent words afterwards: those of the state, where they are asked for and no record is at fault
+abbrev pub wordsIf : Bool → Checked → RenderState → List ℕ → List ℕ
+wordsIf false c st v = v
+wordsIf true (Bad r) st v = v
+wordsIf true Good st v = stateWords st
+
+-- what the loop over count records leaves, d more levels of T being allowed: the state r, the number x, and the lent words v before and u after
+pub record Applied (t dur : ℤ) (ws : List ℕ) (first count d : ℕ) (st : RenderState) (write : Bool) (v : List ℕ) (r : RenderState) (x : ℕ) (u : List ℕ) : Type 0 where
+  pub ground : told x ≡ fault d first (part ws first count)
+  pub state : told x ≡ Good → r ≡ applyTags t dur (tagsAt ws first count) st
+  pub words : u ≡ wordsIf write (told x) r v

@@ -1,20 +1,22 @@
-// The state of a table's tags at an instant: `apply_tag`, `apply_t` and `evaluate_at` of the Rust.
+// The state of a table's tags at an instant: `apply_tag`, `apply_t` and `evaluate_at` of the Rust, by value and as the 92 words of the C interface.
 ghost use mathlib.Core.Path.{_≡_};
-ghost use Prim.Native.Nat.{_<_};
+ghost use mathlib.Core.Bool.{false};
+ghost use Prim.Native.Nat.{_+_, _-_, _<_};
 ghost use Rattle.table.specs.Inner.{Inside};
-ghost use Rattle.state.specs.Apply.{applyTags};
-ghost use Rattle.evaluate.specs.Inner.{tagsAt, insideOf, innerOf};
-ghost use Rattle.evaluate.specs.Evaluate.{evaluated};
+ghost use Rattle.evaluate.specs.Inner.{Applied, isGood};
+ghost use Rattle.evaluate.specs.Evaluate.{evaluated, InWords};
+use apply::times::fad_alpha;
 use apply::values::both;
 use apply::values::byte;
 use apply::values::numpad;
-use apply::values::reset_of;
 use apply::values::some_bool;
 use apply::values::some_f32;
+use apply::values::some_i32;
 use apply::values::some_name;
 use apply::values::some_pair;
 use apply::values::some_part;
 use apply::values::some_rect;
+use apply::values::some_reset;
 use apply::values::some_rgb;
 use apply::values::some_u8;
 use apply::values::some_u16;
@@ -22,9 +24,7 @@ use apply::values::with_x;
 use apply::values::with_y;
 use refusal::Checked;
 use refusal::Refusal;
-use state::OptI32;
 use state::RenderState;
-use tag::Record;
 
 // What the call answers.
 pub enum Evaluated {
@@ -32,386 +32,524 @@ pub enum Evaluated {
     Refused(Refusal),
 }
 
-// How many of the n records behind a T are inside it.
-pub fn inside(r: Record, n: usize) -> usize
-    ensures { λ m. ⌜ m ≡ insideOf r n ⌝ }
-{
-    let m = r.w5 as usize;
-    if m < n { m } else { n }
-}
-
-// The T at the index `at`, with `left` records from there on: part of the way from the state a to what the tags inside it make of it. As in
-// the Rust, each group of fields goes over by itself.
+// What the n records inside the T at the index `at` make of the state a.
 fn apply_t(
     table: &[u32],
     at: usize,
-    left: usize,
+    n: usize,
+    deep: usize,
     a: RenderState,
     t: i32,
     dur: i32,
+    fault: &mut usize,
+    out: &mut [u32; 92],
 ) -> RenderState
-    requires { ⌜ (0 < left) × Inside (now table) at left ⌝ }
-    ensures { λ r. ⌜ r ≡ innerOf t dur (now (table .entry)) at left a ⌝ }
+    requires { ⌜ (0 < deep) × Inside (now table) (at + 1) n × (now fault ≡ 0) ⌝ }
+    ensures { λ r. ⌜ Applied t dur (now (table .entry)) (at + 1) n (deep - 1) a false (now (out .entry)) r (now (fault .exit)) (now (out .exit)) ⌝ }
 {
-    let r = table::record_at(table, at);
     let words = table;
-    apply_tags(words, at + 1, inside(r, left - 1), a, t, dur)
+    apply_tags(words, at + 1, n, deep - 1, a, t, dur, false, fault, out)
 }
 
-// The tags of the `count` records from `first` on, one after the other. A plain tag writes one group of the state, in place.
-pub fn apply_tags(
+// The tags of the `count` records from `first` on, one after the other, with `deep` more levels of T allowed. A record is checked in the arm of
+// its kind and then applied, one field of the state in place; the first at fault ends it, and `fault` then holds its index and 1, which is 0
+// before. Behind the last record the words of the state are written from here, if they are asked for: a state that is handed on is copied.
+fn apply_tags(
     table: &[u32],
     first: usize,
     count: usize,
+    deep: usize,
     st: RenderState,
     t: i32,
     dur: i32,
+    write: bool,
+    fault: &mut usize,
+    out: &mut [u32; 92],
 ) -> RenderState
-    requires { ⌜ Inside (now table) first count ⌝ }
-    ensures { λ r. ⌜ r ≡ applyTags t dur (tagsAt (now (table .entry)) first count) st ⌝ }
+    requires { ⌜ Inside (now table) first count × (now fault ≡ 0) ⌝ }
+    ensures { λ r. ⌜ Applied t dur (now (table .entry)) first count deep st write (now (out .entry)) r (now (fault .exit)) (now (out .exit)) ⌝ }
 {
     let mut post = st;
     let mut at = first;
-    let mut left = count;
-    while 0 < left {
+    let end = first + count;
+    while at < end {
         let r = table::record_at(table, at);
         let kind = r.kind;
         match kind {
             1 => {
-                let s = post.always;
-                post.always = apply::fad(s, table::record_at(table, at), t, dur);
-                at += 1;
-                left -= 1;
+                if !table::numbers_fit(r, 2147483647, 2147483647) {
+                    break;
+                }
+                let m = fad_alpha(r.w1, r.w2, t, dur);
+                let v = post.always.alpha_mul * m;
+                post.always.alpha_mul = v;
             }
             2 => {
+                if !table::fade_fits(r) {
+                    break;
+                }
                 let m = apply::fade_by(r.w1, r.w2, r.w3, r.w4, r.w5, r.w6, r.w7, t);
-                let s = post.always;
-                post.always = apply::faded(s, m);
-                at += 1;
-                left -= 1;
+                let v = post.always.alpha_mul * m;
+                post.always.alpha_mul = v;
             }
             3 => {
-                let s = post.places;
-                post.places = set::set_translate(s, some_pair(r.w1, r.w2));
-                at += 1;
-                left -= 1;
+                if !table::pair_fits(r) {
+                    break;
+                }
+                let mut s = post.places;
+                s.translate = some_pair(r.w1, r.w2);
+                post.places = s;
             }
             4 => {
+                if !table::move_fits(r) {
+                    break;
+                }
                 let k = ramp::progress(r.w5, r.w6, r.w7, t, dur);
-                let s = post.places;
-                post.places = set::set_translate(s, apply::moved(r.w1, r.w2, r.w3, r.w4, k));
-                at += 1;
-                left -= 1;
+                let mut s = post.places;
+                s.translate = apply::moved(r.w1, r.w2, r.w3, r.w4, k);
+                post.places = s;
             }
             5 => {
-                let s = post.always;
-                post.always = set::set_rotate_radians(s, apply::radians(r.w1));
-                at += 1;
-                left -= 1;
+                if !table::float_fits(r) {
+                    break;
+                }
+                let v = apply::radians(r.w1);
+                post.always.rotate_radians = v;
             }
             6 => {
-                let s = post.always;
-                post.always = set::set_blur_sigma(s, apply::above_zero(r.w1));
-                at += 1;
-                left -= 1;
+                if !table::float_fits(r) {
+                    break;
+                }
+                let v = apply::above_zero(r.w1);
+                post.always.blur_sigma = v;
             }
             7 => {
-                let s = post.always;
-                post.always = apply::scale_x(s, r.w1);
-                at += 1;
-                left -= 1;
+                if !table::float_fits(r) {
+                    break;
+                }
+                let v = apply::hundredth(r.w1);
+                post.always.scale.x = v;
             }
             8 => {
-                let s = post.always;
-                post.always = apply::scale_y(s, r.w1);
-                at += 1;
-                left -= 1;
+                if !table::float_fits(r) {
+                    break;
+                }
+                let v = apply::hundredth(r.w1);
+                post.always.scale.y = v;
             }
             9 => {
-                let s = post.colors;
-                post.colors = set::set_primary_color(s, some_rgb(table::record_at(table, at)));
-                at += 1;
-                left -= 1;
+                if !table::colour_fits(r) {
+                    break;
+                }
+                let mut s = post.colors;
+                s.primary_color = some_rgb(r.w1, r.w2, r.w3);
+                post.colors = s;
             }
             10 => {
-                let s = post.sizes;
-                post.sizes = set::set_font_size(s, some_f32(r.w1));
-                at += 1;
-                left -= 1;
+                if !table::float_fits(r) {
+                    break;
+                }
+                let mut s = post.sizes;
+                s.font_size = some_f32(r.w1);
+                post.sizes = s;
             }
             11 => {
-                let s = post.clips;
-                post.clips = set::set_clip_rect(s, some_rect(table::record_at(table, at)));
-                at += 1;
-                left -= 1;
+                if !table::rect_fits(r) {
+                    break;
+                }
+                let mut s = post.clips;
+                s.clip_rect = some_rect(r.w1, r.w2, r.w3, r.w4);
+                post.clips = s;
             }
             12 => {
-                let s = post.line;
-                post.line = set::set_clip_drawing(s, some_part(r.w1, r.w2));
-                at += 1;
-                left -= 1;
+                if !table::drawing_fits(r) {
+                    break;
+                }
+                let mut s = post.line;
+                s.clip_drawing = some_part(r.w1, r.w2);
+                post.line = s;
             }
             13 => {
-                let s = post.always;
-                post.always = set::set_rotate_x_radians(s, apply::radians(r.w1));
-                at += 1;
-                left -= 1;
+                if !table::float_fits(r) {
+                    break;
+                }
+                let v = apply::radians(r.w1);
+                post.always.rotate_x_radians = v;
             }
             14 => {
-                let s = post.always;
-                post.always = set::set_rotate_y_radians(s, apply::radians(r.w1));
-                at += 1;
-                left -= 1;
+                if !table::float_fits(r) {
+                    break;
+                }
+                let v = apply::radians(r.w1);
+                post.always.rotate_y_radians = v;
             }
             15 => {
-                let s = post.line;
-                post.line = set::set_pivot(s, some_pair(r.w1, r.w2));
-                at += 1;
-                left -= 1;
+                if !table::pair_fits(r) {
+                    break;
+                }
+                let mut s = post.line;
+                s.pivot = some_pair(r.w1, r.w2);
+                post.line = s;
             }
             16 => {
-                let s = post.places;
-                post.places = set::set_border(s, both(apply::above_zero(r.w1)));
-                at += 1;
-                left -= 1;
+                if !table::float_fits(r) {
+                    break;
+                }
+                let mut s = post.places;
+                s.border = both(apply::above_zero(r.w1));
+                post.places = s;
             }
             17 => {
-                let s = post.places;
+                if !table::float_fits(r) {
+                    break;
+                }
+                let mut s = post.places;
                 let now = s.border;
-                let border = now.is;
-                post.places = set::set_border(s, with_x(border, apply::above_zero(r.w1)));
-                at += 1;
-                left -= 1;
+                let old = now.is;
+                s.border = with_x(old, apply::above_zero(r.w1));
+                post.places = s;
             }
             18 => {
-                let s = post.places;
+                if !table::float_fits(r) {
+                    break;
+                }
+                let mut s = post.places;
                 let now = s.border;
-                let border = now.is;
-                post.places = set::set_border(s, with_y(border, apply::above_zero(r.w1)));
-                at += 1;
-                left -= 1;
+                let old = now.is;
+                s.border = with_y(old, apply::above_zero(r.w1));
+                post.places = s;
             }
             19 => {
-                let s = post.places;
-                post.places = set::set_shadow(s, both(apply::above_zero(r.w1)));
-                at += 1;
-                left -= 1;
+                if !table::float_fits(r) {
+                    break;
+                }
+                let mut s = post.places;
+                s.shadow = both(apply::above_zero(r.w1));
+                post.places = s;
             }
             20 => {
-                let s = post.places;
+                if !table::float_fits(r) {
+                    break;
+                }
+                let mut s = post.places;
                 let now = s.shadow;
-                let shadow = now.is;
-                post.places = set::set_shadow(s, with_x(shadow, float::f32_of_word(r.w1)));
-                at += 1;
-                left -= 1;
+                let old = now.is;
+                s.shadow = with_x(old, float::f32_of_word(r.w1));
+                post.places = s;
             }
             21 => {
-                let s = post.places;
+                if !table::float_fits(r) {
+                    break;
+                }
+                let mut s = post.places;
                 let now = s.shadow;
-                let shadow = now.is;
-                post.places = set::set_shadow(s, with_y(shadow, float::f32_of_word(r.w1)));
-                at += 1;
-                left -= 1;
+                let old = now.is;
+                s.shadow = with_y(old, float::f32_of_word(r.w1));
+                post.places = s;
             }
             22 => {
-                let s = post.always;
-                post.always = set::set_be_strength(s, byte(r.w1));
-                at += 1;
-                left -= 1;
+                if !table::number_fits(r, 0, 255) {
+                    break;
+                }
+                let v = byte(r.w1);
+                post.always.be_strength = v;
             }
             23 => {
-                let s = post.always;
-                post.always = apply::shear_x(s, r.w1);
-                at += 1;
-                left -= 1;
+                if !table::float_fits(r) {
+                    break;
+                }
+                let v = float::f32_of_word(r.w1);
+                post.always.shear.x = v;
             }
             24 => {
-                let s = post.always;
-                post.always = apply::shear_y(s, r.w1);
-                at += 1;
-                left -= 1;
+                if !table::float_fits(r) {
+                    break;
+                }
+                let v = float::f32_of_word(r.w1);
+                post.always.shear.y = v;
             }
             25 => {
-                let s = post.clips;
-                post.clips = set::set_iclip_rect(s, some_rect(table::record_at(table, at)));
-                at += 1;
-                left -= 1;
+                if !table::rect_fits(r) {
+                    break;
+                }
+                let mut s = post.clips;
+                s.iclip_rect = some_rect(r.w1, r.w2, r.w3, r.w4);
+                post.clips = s;
             }
             26 => {
-                let s = post.line;
-                post.line = set::set_iclip_drawing(s, some_part(r.w1, r.w2));
-                at += 1;
-                left -= 1;
+                if !table::drawing_fits(r) {
+                    break;
+                }
+                let mut s = post.line;
+                s.iclip_drawing = some_part(r.w1, r.w2);
+                post.line = s;
             }
             27 => {
-                let s = post.colors;
-                post.colors = set::set_secondary_color(s, some_rgb(table::record_at(table, at)));
-                at += 1;
-                left -= 1;
+                if !table::colour_fits(r) {
+                    break;
+                }
+                let mut s = post.colors;
+                s.secondary_color = some_rgb(r.w1, r.w2, r.w3);
+                post.colors = s;
             }
             28 => {
-                let s = post.colors;
-                post.colors = set::set_outline_color(s, some_rgb(table::record_at(table, at)));
-                at += 1;
-                left -= 1;
+                if !table::colour_fits(r) {
+                    break;
+                }
+                let mut s = post.colors;
+                s.outline_color = some_rgb(r.w1, r.w2, r.w3);
+                post.colors = s;
             }
             29 => {
-                let s = post.colors;
-                post.colors = set::set_shadow_color(s, some_rgb(table::record_at(table, at)));
-                at += 1;
-                left -= 1;
+                if !table::colour_fits(r) {
+                    break;
+                }
+                let mut s = post.colors;
+                s.shadow_color = some_rgb(r.w1, r.w2, r.w3);
+                post.colors = s;
             }
             30 => {
+                if !table::number_fits(r, 0, 255) {
+                    break;
+                }
                 post.alphas = apply::all_alphas(r.w1);
-                at += 1;
-                left -= 1;
             }
             31 => {
+                if !table::number_fits(r, 0, 255) {
+                    break;
+                }
                 let mut s = post.alphas;
-                s.primary_alpha = apply::alpha(r.w1);
+                s.primary_alpha = some_u8(r.w1);
                 post.alphas = s;
-                at += 1;
-                left -= 1;
             }
             32 => {
+                if !table::number_fits(r, 0, 255) {
+                    break;
+                }
                 let mut s = post.alphas;
-                s.secondary_alpha = apply::alpha(r.w1);
+                s.secondary_alpha = some_u8(r.w1);
                 post.alphas = s;
-                at += 1;
-                left -= 1;
             }
             33 => {
+                if !table::number_fits(r, 0, 255) {
+                    break;
+                }
                 let mut s = post.alphas;
-                s.outline_alpha = apply::alpha(r.w1);
+                s.outline_alpha = some_u8(r.w1);
                 post.alphas = s;
-                at += 1;
-                left -= 1;
             }
             34 => {
+                if !table::number_fits(r, 0, 255) {
+                    break;
+                }
                 let mut s = post.alphas;
-                s.shadow_alpha = apply::alpha(r.w1);
+                s.shadow_alpha = some_u8(r.w1);
                 post.alphas = s;
-                at += 1;
-                left -= 1;
             }
             35 => {
-                let s = post.sizes;
-                post.sizes = set::set_letter_spacing(s, some_f32(r.w1));
-                at += 1;
-                left -= 1;
+                if !table::float_fits(r) {
+                    break;
+                }
+                let mut s = post.sizes;
+                s.letter_spacing = some_f32(r.w1);
+                post.sizes = s;
             }
             36 => {
+                if !table::number_fits(r, 0, 3) {
+                    break;
+                }
                 let s = post.line;
                 post.line = apply::wrapped(s, r.w1);
-                at += 1;
-                left -= 1;
             }
             37 => {
+                if !table::number_fits(r, 1, 9) {
+                    break;
+                }
                 let s = post.line;
                 post.line = apply::aligned(s, r.w1);
-                at += 1;
-                left -= 1;
             }
             38 => {
+                if !table::number_fits(r, 0, 255) {
+                    break;
+                }
                 let s = post.line;
                 post.line = apply::aligned(s, numpad(r.w1));
-                at += 1;
-                left -= 1;
             }
             39 => {
-                let s = post.font;
-                post.font = set::set_font_name(s, some_name(table::record_at(table, at)));
-                at += 1;
-                left -= 1;
+                if !table::font_fits(r) {
+                    break;
+                }
+                let mut s = post.font;
+                s.font_name = some_name(r.w1, r.w2, r.w3, r.w4);
+                post.font = s;
             }
             40 => {
-                let s = post.font;
-                post.font = set::set_font_encoding(s, some_u8(r.w1));
-                at += 1;
-                left -= 1;
+                if !table::number_fits(r, 0, 255) {
+                    break;
+                }
+                let mut s = post.font;
+                s.font_encoding = some_u8(r.w1);
+                post.font = s;
             }
             41 => {
+                if !table::reset_fits(r) {
+                    break;
+                }
                 post = state::identity();
-                let s = post.line;
-                post.line = set::set_reset_to_style(s, reset_of(r));
-                at += 1;
-                left -= 1;
+                let mut s = post.line;
+                s.reset_to_style = some_reset(r.w1, r.w2, r.w3);
+                post.line = s;
             }
             42 => {
-                let s = post.font;
-                post.font = set::set_bold_weight(s, some_u16(r.w1));
-                at += 1;
-                left -= 1;
+                if !table::weight_fits(r) {
+                    break;
+                }
+                let mut s = post.font;
+                s.bold_weight = some_u16(r.w1);
+                post.font = s;
             }
             43 => {
-                let s = post.font;
-                post.font = set::set_italic(s, some_bool(r.w1));
-                at += 1;
-                left -= 1;
+                if !table::number_fits(r, 0, 1) {
+                    break;
+                }
+                let mut s = post.font;
+                s.italic = some_bool(r.w1);
+                post.font = s;
             }
             44 => {
-                let s = post.font;
-                post.font = set::set_underline(s, some_bool(r.w1));
-                at += 1;
-                left -= 1;
+                if !table::number_fits(r, 0, 1) {
+                    break;
+                }
+                let mut s = post.font;
+                s.underline = some_bool(r.w1);
+                post.font = s;
             }
             45 => {
-                let s = post.font;
-                post.font = set::set_strikeout(s, some_bool(r.w1));
-                at += 1;
-                left -= 1;
+                if !table::number_fits(r, 0, 1) {
+                    break;
+                }
+                let mut s = post.font;
+                s.strikeout = some_bool(r.w1);
+                post.font = s;
             }
             46 => {
-                at += 1;
-                left -= 1;
+                if !table::numbers_fit(r, 2, 1000000000) {
+                    break;
+                }
             }
             47 => {
-                let s = post.sizes;
-                post.sizes = set::set_drawing_baseline_offset(
-                    s,
-                    OptI32::Some(float::of_word(r.w1)),
-                );
-                at += 1;
-                left -= 1;
+                if !table::shift_fits(r) {
+                    break;
+                }
+                let mut s = post.sizes;
+                s.drawing_baseline_offset = some_i32(r.w1);
+                post.sizes = s;
             }
             48 => {
-                let s = post.line;
-                post.line = set::set_drawing_scale(s, some_u8(r.w1));
-                at += 1;
-                left -= 1;
+                if !table::number_fits(r, 0, 255) {
+                    break;
+                }
+                let mut s = post.line;
+                s.drawing_scale = some_u8(r.w1);
+                post.line = s;
             }
             49 => {
-                let n = 1 + inside(r, left - 1);
-                let words = table;
-                let b = apply_t(words, at, left, post, t, dur);
+                let n = r.w5 as usize;
+                if !table::t_stands(r, end - at - 1, deep) {
+                    break;
+                }
                 let k = mix::factor(r.w1, r.w2, r.w3, r.w4, t, dur);
-                post = mix::mix_state(post, b, k);
-                at += n;
-                left -= n;
+                if n == 0 {
+                    post = mix::mix_state(post, post, k);
+                } else {
+                    let words = table;
+                    let b = apply_t(words, at, n, deep, post, t, dur, fault, out);
+                    if *fault > 0 {
+                        return post;
+                    }
+                    post = mix::mix_state(post, b, k);
+                    at += n;
+                }
             }
             _ => {
-                at += 1;
-                left -= 1;
+                break;
             }
         }
+        at += 1;
+    }
+    if at < end {
+        *fault = at + 1;
+        return post;
+    }
+    if write {
+        words::clear(out);
+        words::put_from_0(out, post);
+        words::put_from_18(out, post);
+        words::put_from_44(out, post);
+        words::put_from_70(out, post);
     }
     post
 }
 
-// 01, Evaluation: the state at t of the tags that the table stands for, in a line of dur milliseconds. The table is looked over before
-// anything is worked out.
+fn good(c: Checked) -> bool
+    ensures { λ b. ⌜ b ≡ isGood c ⌝ }
+{
+    match c {
+        Checked::Good => true,
+        Checked::Bad(_) => false,
+    }
+}
+
+// 01, Evaluation: the state at t of the tags that the table stands for, in a line of dur milliseconds.
 pub fn evaluate_at(table: &[u32], t: i32, dur: i32) -> Evaluated
     ensures { λ r. ⌜ r ≡ evaluated (now (table .entry)) t dur ⌝ }
 {
-    match table::check_call(table, t, dur) {
-        Checked::Bad(r) => Evaluated::Refused(r),
-        Checked::Good => Evaluated::State(apply_tags(
-            table,
-            0,
-            table.len() / 8,
-            state::identity(),
-            t,
-            dur,
-        )),
+    let mut fault: usize = 0;
+    let mut unwritten = [0; 92];
+    let end = scan::least(table.len() / 8, 1024);
+    let st = apply_tags(
+        table,
+        0,
+        end,
+        8,
+        state::identity(),
+        t,
+        dur,
+        false,
+        &mut fault,
+        &mut unwritten,
+    );
+    if fault > 0 {
+        return Evaluated::Refused(Refusal::TableMalformed(fault - 1));
     }
+    match table::after_records(table, t, dur) {
+        Checked::Bad(x) => Evaluated::Refused(x),
+        Checked::Good => Evaluated::State(st),
+    }
+}
+
+// The same as a ground and the 92 words of the C interface. What is left of the grounds is looked for first, so that the words are written
+// where nothing stands against them.
+pub fn write_at(table: &[u32], t: i32, dur: i32, state: &mut [u32; 92]) -> Checked
+    ensures { λ c. ⌜ InWords (now (table .entry)) t dur (now (state .entry)) c (now (state .exit)) ⌝ }
+{
+    let late = table::after_records(table, t, dur);
+    let mut fault: usize = 0;
+    let end = scan::least(table.len() / 8, 1024);
+    apply_tags(
+        table,
+        0,
+        end,
+        8,
+        state::identity(),
+        t,
+        dur,
+        good(late),
+        &mut fault,
+        state,
+    );
+    if fault > 0 {
+        return Checked::Bad(Refusal::TableMalformed(fault - 1));
+    }
+    late
 }

@@ -79,7 +79,7 @@ pub extern "C" fn hannuvel_evaluate_at(
 ) -> u64
     ensures { λ r. ⌜ EvaluatingCall (now (table .entry)) t duration (now (state .entry)) r (now (state .exit)) ⌝ }
 {
-    match frame::write_at(table, t, duration, state) {
+    match evaluate::write_at(table, t, duration, state) {
         refusal::Checked::Bad(g) => packed_refusal(g),
         refusal::Checked::Good => 0,
     }

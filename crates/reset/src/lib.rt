@@ -28,7 +28,7 @@ fn reset_tags(table: &[u32], first: usize, count: usize, s: OptReset, t: i32, du
         at += 1;
         left -= 1;
         if kind == 41 {
-            reset = apply::values::reset_of(r);
+            reset = apply::values::reset_of(r.w1, r.w2, r.w3);
         } else if kind == 49 {
             let inner = at;
             let n = scan::least(r.w5 as usize, left);

@@ -18,7 +18,7 @@ use Rattle.tag.specs.Tag.{mostDepth}
 use Rattle.tag.specs.Table.{placesOf}
 use Rattle.tag.specs.Range.{inRange}
 use Rattle.tag.specs.WellFormed.{tKind, holds, first, faultIn, fault}
-use Rattle.table.specs.Inner.{recordIn, part, Inside, ofKind, stands, faultOfT}
+use Rattle.table.specs.Inner.{recordIn, part, Inside, ofKind, stands, tStands, faultOfT}
 use Rattle.table.proofs.Slices.{inside-places, part-more, length-part, take-part, drop-part}
 
 -- how many turns are allowed does not matter, where they are enough
@@ -171,6 +171,12 @@ module _ (t : List ℕ) (d at left : ℕ) (h : Inside t at left) (g : 0 < left) 
       pub turn-past : (c : Checked) → c ≡ fault (d - 1) (at + 1) (part t (at + 1) (holds x)) → c ≡ Good → fault d (at + 1 + holds x) (part t (at + 1 + holds x) (left - 1 - holds x)) ≡ fault d at (part t at left)
       turn-past c f g = sym (turn-t ∙ ap (λ (y : Checked). first y (fault d (at + 1 + holds x) (part t (at + 1 + holds x) (left - 1 - holds x)))) (sym f ∙ g))
 
+-- ---- a T
+
+-- what the code has found of one, as of any record
+pub t-as-stands : (left d : ℕ) (x : Record) {v : Bool} → x .kind ≡ tKind → v ≡ tStands left d x → v ≡ stands left d x
+t-as-stands left d x k s = s ∙ ap (λ (j : ℕ). both (inRange (ofKind j x)) (both (ltb 0 d) (leb (holds x) left))) (sym k) ∙ rw (eq-eqb (x .kind) tKind k) refl
+
 -- ---- a T that is in no other
 
 -- what the code has found of one
@@ -186,7 +192,7 @@ module _ (t : List ℕ) (at n : ℕ) (x : Record) {u v : Bool} (p : u ≡ inRang
   pub t-reach : v ≡ true → holds x ≤ n
   t-reach z = leb-true (holds x) n (both-true u (leb (holds x) n) (sym q ∙ z) .1)
 
-bad-good : {b : Refusal} → Bad b ≡ Good → ⊥
+pub bad-good : {b : Refusal} → Bad b ≡ Good → ⊥
 bad-good e = let z : _≡_ {A = ℕ} 0 1 = cc in omega arith
 
 module _ (t : List ℕ) (at left : ℕ) (h : Inside t at left) (g : 0 < left) (x : Record) (e : x ≡ recordIn t at) (k : x .kind ≡ tKind) (c : Checked) (f : c ≡ faultOfT t at (left - 1) x) where

@@ -52,6 +52,10 @@ ofKind k r = rec k (r .w1) (r .w2) (r .w3) (r .w4) (r .w5) (r .w6) (r .w7)
 abbrev pub stands : ℕ → ℕ → Record → Bool
 stands left d r = pick (eqb (r .kind) tKind) (both (inRange r) (both (ltb 0 d) (leb (holds r) left))) (inRange r)
 
+-- the same of a T
+abbrev pub tStands : ℕ → ℕ → Record → Bool
+tStands left d r = both (inRange (ofKind tKind r)) (both (ltb 0 d) (leb (holds r) left))
+
 -- the T r with the index at that is in no other, with n records behind it: itself at fault, or the first at fault inside it
 unfoldable pub faultOfT : List ℕ → ℕ → ℕ → Record → Checked
 faultOfT t at n r = pick (both (inRange (ofKind tKind r)) (leb (holds r) n)) (fault (mostDepth - 1) (at + 1) (part t (at + 1) (holds r))) (Bad (TableMalformed at))

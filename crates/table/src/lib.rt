@@ -10,7 +10,7 @@ ghost use lib.ListN.{length};
 ghost use Rattle.scan.specs.Scan.{both, within as withinOf};
 ghost use Rattle.tag.specs.Range.{unused, float, range, time, weight, free, timeWord, partFits, timesFit, wordFits, inRange};
 ghost use Rattle.tag.specs.WellFormed.{first, fault as faultOf, excess as excessOf, tableGround};
-ghost use Rattle.table.specs.Inner.{recordIn, part, Inside, wordsFit, oneFits, twoFit, fontParts, stylePart, ofKind, stands as standsOf, faultOfT};
+ghost use Rattle.table.specs.Inner.{recordIn, part, Inside, wordsFit, oneFits, twoFit, fontParts, stylePart, ofKind, stands as standsOf, tStands, faultOfT};
 ghost use Rattle.table.specs.Ground.{inTime, timeGround, callGround};
 
 // The record with the index `at`.
@@ -231,6 +231,14 @@ fn t_fits(r: Record) -> bool
         ),
         times_fit(r.w1, r.w2, r.w3),
     )
+}
+
+// Whether a T is not at fault itself, with `left` records behind it and `deep` more levels of T allowed.
+pub fn t_stands(r: Record, left: usize, deep: usize) -> bool
+    ensures { λ v. ⌜ v ≡ tStands left deep r ⌝ }
+{
+    let n = r.w5 as usize;
+    scan::both(t_fits(r), scan::both(0 < deep, n <= left))
 }
 
 // Whether every word of a record is in the range of its kind. Kinds that follow one another stand in two arms: of a run in one arm

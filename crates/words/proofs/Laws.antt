@@ -1,12 +1,12 @@
 -- Words stored one after the other, joined.
 use mathlib.Core.Path.{_≡_, refl, sym, ap, _∙_}
 use mathlib.Core.List.{List, [], _∷_, _++_, append-nil, append-assoc}
-use Prim.Native.Nat.{ℕ, zero, suc, _+_, _-_, _≤_, _<_}
+use Prim.Native.Nat.{ℕ, zero, suc, _+_, _-_, _≤_}
 use native.Mathlib.Numerals.{add-one}
 use native.Mathlib.Nat.{add-suc}
 use native.Mathlib.Omega.{arith}
-use lib.ListN.{length, take, drop, set, length-set, length-append, take-append-drop}
-use lib.Seq.{sets, sets-eq, length-sets, length-take-le, take-all, take-suc-set, drop-length, drop-drop, drop-append-seam}
+use lib.ListN.{length, take, drop, set, length-append, take-append-drop}
+use lib.Seq.{sets, sets-eq, length-sets, length-take-le, drop-length, drop-drop, drop-append-seam}
 use Rattle.words.specs.Words.{optF32, optPair, optRect, optRgb, optU8, optU16, optI32, optBool, optPart, optName, optReset, wordsFrom0, wordsFrom18, wordsFrom44, wordsFrom70, stateWords}
 use Rattle.state.specs.declared.OptF32.{OptF32}
 use Rattle.state.specs.declared.OptPair.{OptPair}
@@ -93,32 +93,6 @@ free j h p = record { clear = p .clear; room = h }
 
 pub start : {u : List ℕ} {n : ℕ} (k : ℕ) → n + k ≤ 92 → Clear u n → Free u n k
 start k h c = record { clear = c; room = h }
-
--- ---- all words cleared, one after the other
-
-pub record Cleared (u : List ℕ) (i : ℕ) : Type 0 where
-  pub wide : length u ≡ 92
-  pub front : take i u ≡ zeros i
-  pub low : i ≤ 92
-
-pub clear-start : {u : List ℕ} → length u ≡ 92 → Cleared u 0
-clear-start h = record { wide = h; front = refl; low = omega arith }
-
-pub clear-next : {u : List ℕ} {i : ℕ} → i < 92 → Cleared u i → Cleared (set u i 0) (i + 1)
-clear-next {u} {i} h c =
-    let l : i < length u = omega (arith, c .wide) in
-    let s : i + 1 ≡ suc i = add-one i in
-    record {
-      wide = length-set u i 0 ∙ c .wide;
-      front = rw s (take-suc-set u i 0 l ∙ ap (λ (r : List ℕ). r ++ (0 ∷ [])) (c .front)) ∙ zeros-append i 1;
-      low = omega arith;
-    }
-
-pub clear-done : {u : List ℕ} {i : ℕ} → 92 ≤ i → Cleared u i → Clear u 0
-clear-done {u} {i} h c =
-    let e : i ≡ 92 = omega (arith, c .low) in
-    let a : take i u ≡ u = take-all i u (omega (arith, c .wide)) in
-    record { wide = c .wide; rest = sym a ∙ c .front ∙ ap zeros e }
 
 -- ---- fields joined
 

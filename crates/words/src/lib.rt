@@ -242,21 +242,16 @@ fn put_opt_reset(out: &mut [u32], at: usize, o: OptReset)
 // ---- the state
 
 // All words 0.
-pub fn clear(out: &mut [u32])
-    requires { ⌜ length (now out) ≡ 92 ⌝ }
+pub fn clear(out: &mut [u32; 92])
     ensures { λ _. ⌜ Clear (now (out .exit)) 0 ⌝ }
 {
-    let mut i: usize = 0;
-    while i < 92 {
-        out[i] = 0;
-        i += 1;
-    }
+    *out = [0; 92];
 }
 
 // Four parts, one behind another: each has few fields at hand.
 
 // alpha_mul to clip_drawing
-pub fn put_from_0(out: &mut [u32], st: RenderState)
+pub fn put_from_0(out: &mut [u32; 92], st: RenderState)
     requires { ⌜ Clear (now out) 0 ⌝ }
     ensures { λ _. ⌜ Put (now (out .entry)) 0 18 (wordsFrom0 st) (now (out .exit)) ⌝ }
 {
@@ -283,7 +278,7 @@ pub fn put_from_0(out: &mut [u32], st: RenderState)
 }
 
 // primary_color to iclip_drawing
-pub fn put_from_18(out: &mut [u32], st: RenderState)
+pub fn put_from_18(out: &mut [u32; 92], st: RenderState)
     requires { ⌜ Clear (now out) 18 ⌝ }
     ensures { λ _. ⌜ Put (now (out .entry)) 18 26 (wordsFrom18 st) (now (out .exit)) ⌝ }
 {
@@ -320,7 +315,7 @@ pub fn put_from_18(out: &mut [u32], st: RenderState)
 }
 
 // secondary_color to alignment
-pub fn put_from_44(out: &mut [u32], st: RenderState)
+pub fn put_from_44(out: &mut [u32; 92], st: RenderState)
     requires { ⌜ Clear (now out) 44 ⌝ }
     ensures { λ _. ⌜ Put (now (out .entry)) 44 26 (wordsFrom44 st) (now (out .exit)) ⌝ }
 {
@@ -361,7 +356,7 @@ pub fn put_from_44(out: &mut [u32], st: RenderState)
 }
 
 // font_name to drawing_scale
-pub fn put_from_70(out: &mut [u32], st: RenderState)
+pub fn put_from_70(out: &mut [u32; 92], st: RenderState)
     requires { ⌜ Clear (now out) 70 ⌝ }
     ensures { λ _. ⌜ Put (now (out .entry)) 70 22 (wordsFrom70 st) (now (out .exit)) ⌝ }
 {

@@ -1,6 +1,6 @@
+use borrow.Author.Needs.{needs}
 use borrow.Author.Tests.{le-leb, lt-leb}
 use Rattle.state.specs.Apply.{aligned}
-use borrow.Author.Needs.{needs}
 use Rattle.apply.proofs.aligned.Statement.{statement}
 use Rattle.apply.proofs.aligned.Tie as tie
 
@@ -13,4 +13,4 @@ aligned-spec =
     (λ c. rw (le-leb _ _ (c .before .if1 .left), lt-leb _ _ (c .if2 .taken)))
     (λ c. search needs)
     (λ c κs. tt)
-    (λ c. rw (le-leb _ _ (c .before .before .if1 .left), le-leb _ _ (c .before .if2 .left), c .set-alignment .ensures)))
+    (λ c. rw (le-leb _ _ (c .before .before .if1 .left), le-leb _ _ (c .before .if2 .left), c .this-u8 .ensures)))

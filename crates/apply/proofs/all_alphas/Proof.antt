@@ -6,4 +6,7 @@ all-alphas-spec =
     tie.close
     (tie.spec
     (λ c κs. tt)
-    (λ c. rw (c .some-u8 .ensures)))
+    (λ c κs. tt)
+    (λ c κs. tt)
+    (λ c κs. tt)
+    (λ c. rw (c .some-u84 .ensures, c .before .some-u83 .ensures, c .before .before .some-u82 .ensures, c .before .before .before .some-u8 .ensures)))

@@ -1,6 +1,6 @@
+use borrow.Author.Needs.{needs}
 use borrow.Author.Tests.{le-leb, lt-leb}
 use Rattle.state.specs.Apply.{wrapped}
-use borrow.Author.Needs.{needs}
 use Rattle.apply.proofs.wrapped.Statement.{statement}
 use Rattle.apply.proofs.wrapped.Tie as tie
 
@@ -12,4 +12,4 @@ wrapped-spec =
     (λ c. rw (lt-leb _ _ (c .if1 .taken)))
     (λ c. search needs)
     (λ c κs. tt)
-    (λ c. rw (le-leb _ _ (c .before .if1 .left), c .set-wrap-style .ensures)))
+    (λ c. rw (le-leb _ _ (c .before .if1 .left), c .this-u8 .ensures)))

@@ -1,20 +1,24 @@
+-- The loop over the records, kind by kind.
 use mathlib.Core.Path.{_≡_, refl, sym, ap, _∙_}
+use mathlib.Core.Bool.{true, false}
+use mathlib.Core.Logic.{⊎-elim}
 use native.Mathlib.Omega.{arith}
 use borrow.Author.Needs.{needs}
+use borrow.Author.Tests.{not-true, not-false}
 use mir.Syntax.{w32}
 use mir.Val.{toZ, ofZ}
 use mir.ValLaws.{toZ-ofZ}
-use Rattle.state.specs.State.{withAlways, withPlaces, withClips, withSizes, withColors, withAlphas, withLine, withFont}
-use Rattle.state.specs.declared.RenderState.{RenderState}
-use Rattle.state.specs.Mix.{between}
-use Rattle.apply.specs.declared.Group.{Group}
+use Rattle.refusal.specs.declared.Checked.the-variants.{Good}
+use Rattle.tag.specs.Range.{inRange, rows}
+use Rattle.tag.specs.WellFormed.{fault}
 use Rattle.tag.specs.Decode.{decodeOne, decoders}
-use Rattle.state.specs.Apply.{applyOwn}
-use Rattle.apply.specs.Inner.{resetBy}
-use Rattle.apply.proofs.Groups.{nothing-law}
-use Rattle.ramp.proofs.Ints.{answered}
-use Rattle.evaluate.proofs.Turns.{Looping, loop-start, loop-done}
-use Rattle.evaluate.proofs.Arms.{turn-by, turn-kind, no-kind, turn-around, inner-is, mixed-is}
+use Rattle.state.specs.State.{withAlphas, withLine, identity}
+use Rattle.state.specs.Apply.{faded, applyOwn}
+use Rattle.table.specs.Inner.{part}
+use Rattle.table.proofs.ByKind.{unjoined}
+use Rattle.words.proofs.Laws.{whole}
+use Rattle.evaluate.specs.Inner.{told}
+use Rattle.evaluate.proofs.Checking.{Checking, Running, Turned, start, one, kind-refused, none-refused, t-refused, t-room, inner-refused, none-inside, zero-told, within-end, turn-less, plain-turn, t-turn, refused-is, applied-is}
 use Prim.Native.Nat.{ℕ, _<_, _≤_, _+_, _-_, _*_}
 use borrow.Fn.Kinds.{In}
 use borrow.Fn.PlainCycle.{Measures, is, falls, and}
@@ -24,466 +28,398 @@ use Rattle.evaluate.proofs.+apply_t+apply_tags.Lts-apply_t as apply-t-l
 use Rattle.evaluate.proofs.apply_tags.Reads as apply-tags
 use Rattle.evaluate.proofs.apply_tags.Kinds as apply-tags-kinds
 use Rattle.evaluate.proofs.+apply_t+apply_tags.Lts-apply_tags as apply-tags-lts
-use Rattle.table.proofs.record_at.Reads as record-at-reads
-use Rattle.apply.proofs.fad.Reads as fad-reads
+use Rattle.apply.proofs.above_zero.Reads as above-zero-reads
+use Rattle.apply.proofs.aligned.Reads as aligned-reads
+use Rattle.apply.proofs.all_alphas.Reads as all-alphas-reads
 use Rattle.apply.proofs.fade_by.Reads as fade-by-reads
-use Rattle.apply.proofs.faded.Reads as faded-reads
-use Rattle.ramp.proofs.progress.Reads as progress-reads
-use Rattle.state.proofs.identity.Reads as identity-reads
-use Rattle.apply.proofs.values.reset_of.Reads as reset-of-reads
-use Rattle.set.proofs.set_reset_to_style.Reads as set-reset-to-style-reads
-use Rattle.apply.proofs.values.some_pair.Reads as some-pair-reads
-use Rattle.set.proofs.set_translate.Reads as set-translate-reads
+use Rattle.apply.proofs.hundredth.Reads as hundredth-reads
 use Rattle.apply.proofs.moved.Reads as moved-reads
 use Rattle.apply.proofs.radians.Reads as radians-reads
-use Rattle.set.proofs.set_rotate_radians.Reads as set-rotate-radians-reads
-use Rattle.apply.proofs.above_zero.Reads as above-zero-reads
-use Rattle.set.proofs.set_blur_sigma.Reads as set-blur-sigma-reads
-use Rattle.apply.proofs.scale_x.Reads as scale-x-reads
-use Rattle.apply.proofs.scale_y.Reads as scale-y-reads
-use Rattle.apply.proofs.values.some_rgb.Reads as some-rgb-reads
-use Rattle.set.proofs.set_primary_color.Reads as set-primary-color-reads
-use Rattle.apply.proofs.values.some_f32.Reads as some-f32-reads
-use Rattle.set.proofs.set_font_size.Reads as set-font-size-reads
-use Rattle.apply.proofs.values.some_rect.Reads as some-rect-reads
-use Rattle.set.proofs.set_clip_rect.Reads as set-clip-rect-reads
-use Rattle.apply.proofs.values.some_part.Reads as some-part-reads
-use Rattle.set.proofs.set_clip_drawing.Reads as set-clip-drawing-reads
-use Rattle.set.proofs.set_rotate_x_radians.Reads as set-rotate-x-radians-reads
-use Rattle.set.proofs.set_rotate_y_radians.Reads as set-rotate-y-radians-reads
-use Rattle.set.proofs.set_pivot.Reads as set-pivot-reads
+use Rattle.apply.proofs.times.fad_alpha.Reads as fad-alpha-reads
 use Rattle.apply.proofs.values.both.Reads as both-reads
-use Rattle.set.proofs.set_border.Reads as set-border-reads
+use Rattle.apply.proofs.values.byte.Reads as byte-reads
+use Rattle.apply.proofs.values.numpad.Reads as numpad-reads
+use Rattle.apply.proofs.values.some_bool.Reads as some-bool-reads
+use Rattle.apply.proofs.values.some_f32.Reads as some-f32-reads
+use Rattle.apply.proofs.values.some_i32.Reads as some-i32-reads
+use Rattle.apply.proofs.values.some_name.Reads as some-name-reads
+use Rattle.apply.proofs.values.some_pair.Reads as some-pair-reads
+use Rattle.apply.proofs.values.some_part.Reads as some-part-reads
+use Rattle.apply.proofs.values.some_rect.Reads as some-rect-reads
+use Rattle.apply.proofs.values.some_reset.Reads as some-reset-reads
+use Rattle.apply.proofs.values.some_rgb.Reads as some-rgb-reads
+use Rattle.apply.proofs.values.some_u16.Reads as some-u16-reads
+use Rattle.apply.proofs.values.some_u8.Reads as some-u8-reads
 use Rattle.apply.proofs.values.with_x.Reads as with-x-reads
 use Rattle.apply.proofs.values.with_y.Reads as with-y-reads
-use Rattle.set.proofs.set_shadow.Reads as set-shadow-reads
-use Rattle.float.proofs.f32_of_word.Reads as f32-of-word-reads
-use Rattle.apply.proofs.values.byte.Reads as byte-reads
-use Rattle.set.proofs.set_be_strength.Reads as set-be-strength-reads
-use Rattle.apply.proofs.shear_x.Reads as shear-x-reads
-use Rattle.apply.proofs.shear_y.Reads as shear-y-reads
-use Rattle.set.proofs.set_iclip_rect.Reads as set-iclip-rect-reads
-use Rattle.set.proofs.set_iclip_drawing.Reads as set-iclip-drawing-reads
-use Rattle.set.proofs.set_secondary_color.Reads as set-secondary-color-reads
-use Rattle.set.proofs.set_outline_color.Reads as set-outline-color-reads
-use Rattle.set.proofs.set_shadow_color.Reads as set-shadow-color-reads
-use Rattle.apply.proofs.all_alphas.Reads as all-alphas-reads
-use Rattle.apply.proofs.values.some_u8.Reads as some-u8-reads
-use Rattle.apply.proofs.alpha.Reads as alpha-reads
-use Rattle.set.proofs.set_letter_spacing.Reads as set-letter-spacing-reads
 use Rattle.apply.proofs.wrapped.Reads as wrapped-reads
-use Rattle.apply.proofs.aligned.Reads as aligned-reads
-use Rattle.apply.proofs.values.numpad.Reads as numpad-reads
-use Rattle.apply.proofs.values.some_name.Reads as some-name-reads
-use Rattle.set.proofs.set_font_name.Reads as set-font-name-reads
-use Rattle.set.proofs.set_font_encoding.Reads as set-font-encoding-reads
-use Rattle.apply.proofs.values.some_u16.Reads as some-u16-reads
-use Rattle.set.proofs.set_bold_weight.Reads as set-bold-weight-reads
-use Rattle.apply.proofs.values.some_bool.Reads as some-bool-reads
-use Rattle.set.proofs.set_italic.Reads as set-italic-reads
-use Rattle.set.proofs.set_underline.Reads as set-underline-reads
-use Rattle.set.proofs.set_strikeout.Reads as set-strikeout-reads
-use Rattle.float.proofs.of_word.Reads as of-word-reads
-use Rattle.set.proofs.set_drawing_baseline_offset.Reads as set-drawing-baseline-offset-reads
-use Rattle.set.proofs.set_drawing_scale.Reads as set-drawing-scale-reads
-use Rattle.evaluate.proofs.inside.Reads as inside-reads
+use Rattle.float.proofs.f32_of_word.Reads as f32-of-word-reads
 use Rattle.mix.proofs.factor.Reads as factor-reads
 use Rattle.mix.proofs.mix_state.Reads as mix-state-reads
+use Rattle.ramp.proofs.progress.Reads as progress-reads
+use Rattle.state.proofs.identity.Reads as identity-reads
+use Rattle.table.proofs.colour_fits.Reads as colour-fits-reads
+use Rattle.table.proofs.drawing_fits.Reads as drawing-fits-reads
+use Rattle.table.proofs.fade_fits.Reads as fade-fits-reads
+use Rattle.table.proofs.float_fits.Reads as float-fits-reads
+use Rattle.table.proofs.font_fits.Reads as font-fits-reads
+use Rattle.table.proofs.move_fits.Reads as move-fits-reads
+use Rattle.table.proofs.number_fits.Reads as number-fits-reads
+use Rattle.table.proofs.numbers_fit.Reads as numbers-fit-reads
+use Rattle.table.proofs.pair_fits.Reads as pair-fits-reads
+use Rattle.table.proofs.record_at.Reads as record-at-reads
+use Rattle.table.proofs.rect_fits.Reads as rect-fits-reads
+use Rattle.table.proofs.reset_fits.Reads as reset-fits-reads
+use Rattle.table.proofs.shift_fits.Reads as shift-fits-reads
+use Rattle.table.proofs.t_stands.Reads as t-stands-reads
+use Rattle.table.proofs.weight_fits.Reads as weight-fits-reads
+use Rattle.words.proofs.clear.Reads as clear-reads
+use Rattle.words.proofs.put_from_0.Reads as put-from-0-reads
+use Rattle.words.proofs.put_from_18.Reads as put-from-18-reads
+use Rattle.words.proofs.put_from_44.Reads as put-from-44-reads
+use Rattle.words.proofs.put_from_70.Reads as put-from-70-reads
 use Rattle.evaluate.proofs.+apply_t+apply_tags.{statement}
 use Rattle.evaluate.proofs.+apply_t+apply_tags.Tie.{close}
 
-abbrev μ-apply-t : Measures 1 apply-t-kinds.ps ℕ
-μ-apply-t κs a = 2 * a .1 .1 .0
+abbrev μ-apply-t : Measures 3 apply-t-kinds.ps ℕ
+μ-apply-t κs a = 2 * a .1 .1 .0 + 1
 
-abbrev μ-apply-tags : Measures 1 apply-tags-kinds.ps ℕ
-μ-apply-tags κs a = 2 * a .1 .1 .0 + 1
+abbrev μ-apply-tags : Measures 3 apply-tags-kinds.ps ℕ
+μ-apply-tags κs a = 2 * a .1 .1 .0
 
-abbrev apply-t-at : ℕ → In 1 apply-t-kinds.ps
-apply-t-at t = and 1 apply-t-kinds.ps (is 1 apply-t-kinds.ps μ-apply-t t) apply-t.Pre
+abbrev apply-t-at : ℕ → In 3 apply-t-kinds.ps
+apply-t-at t = and 3 apply-t-kinds.ps (is 3 apply-t-kinds.ps μ-apply-t t) apply-t.Pre
 
-abbrev apply-t-below : ℕ → In 1 apply-t-kinds.ps
-apply-t-below t = and 1 apply-t-kinds.ps (falls 1 apply-t-kinds.ps _<_ μ-apply-t t) apply-t.Pre
+abbrev apply-t-below : ℕ → In 3 apply-t-kinds.ps
+apply-t-below t = and 3 apply-t-kinds.ps (falls 3 apply-t-kinds.ps _<_ μ-apply-t t) apply-t.Pre
 
-abbrev apply-tags-at : ℕ → In 1 apply-tags-kinds.ps
+abbrev apply-tags-at : ℕ → In 3 apply-tags-kinds.ps
 apply-tags-at t =
-    and 1 apply-tags-kinds.ps (is 1 apply-tags-kinds.ps μ-apply-tags t) apply-tags.Pre
+    and 3 apply-tags-kinds.ps (is 3 apply-tags-kinds.ps μ-apply-tags t) apply-tags.Pre
 
-abbrev apply-tags-below : ℕ → In 1 apply-tags-kinds.ps
+abbrev apply-tags-below : ℕ → In 3 apply-tags-kinds.ps
 apply-tags-below t =
-    and 1 apply-tags-kinds.ps (falls 1 apply-tags-kinds.ps _<_ μ-apply-tags t) apply-tags.Pre
-
-abbrev calls-t : ℕ → apply-t-lts.Claims
-calls-t t = (
-  record-at-reads.Asked,
-  record-at-reads.Learnt,
-  inside-reads.Asked,
-  inside-reads.Learnt,
-  apply-tags-below t,
-  apply-tags.Post,
-)
+    and 3 apply-tags-kinds.ps (falls 3 apply-tags-kinds.ps _<_ μ-apply-tags t) apply-tags.Pre
 
 abbrev calls-tags : ℕ → apply-tags-lts.Claims
 calls-tags t = (
   record-at-reads.Asked,
   record-at-reads.Learnt,
-  fad-reads.Asked,
-  fad-reads.Learnt,
+  numbers-fit-reads.Asked,
+  numbers-fit-reads.Learnt,
+  fad-alpha-reads.Asked,
+  fad-alpha-reads.Learnt,
+  fade-fits-reads.Asked,
+  fade-fits-reads.Learnt,
   fade-by-reads.Asked,
   fade-by-reads.Learnt,
-  faded-reads.Asked,
-  faded-reads.Learnt,
+  pair-fits-reads.Asked,
+  pair-fits-reads.Learnt,
   some-pair-reads.Asked,
   some-pair-reads.Learnt,
-  set-translate-reads.Asked,
-  set-translate-reads.Learnt,
+  move-fits-reads.Asked,
+  move-fits-reads.Learnt,
   progress-reads.Asked,
   progress-reads.Learnt,
   moved-reads.Asked,
   moved-reads.Learnt,
+  float-fits-reads.Asked,
+  float-fits-reads.Learnt,
   radians-reads.Asked,
   radians-reads.Learnt,
-  set-rotate-radians-reads.Asked,
-  set-rotate-radians-reads.Learnt,
   above-zero-reads.Asked,
   above-zero-reads.Learnt,
-  set-blur-sigma-reads.Asked,
-  set-blur-sigma-reads.Learnt,
-  scale-x-reads.Asked,
-  scale-x-reads.Learnt,
-  scale-y-reads.Asked,
-  scale-y-reads.Learnt,
+  hundredth-reads.Asked,
+  hundredth-reads.Learnt,
+  colour-fits-reads.Asked,
+  colour-fits-reads.Learnt,
   some-rgb-reads.Asked,
   some-rgb-reads.Learnt,
-  set-primary-color-reads.Asked,
-  set-primary-color-reads.Learnt,
   some-f32-reads.Asked,
   some-f32-reads.Learnt,
-  set-font-size-reads.Asked,
-  set-font-size-reads.Learnt,
+  rect-fits-reads.Asked,
+  rect-fits-reads.Learnt,
   some-rect-reads.Asked,
   some-rect-reads.Learnt,
-  set-clip-rect-reads.Asked,
-  set-clip-rect-reads.Learnt,
+  drawing-fits-reads.Asked,
+  drawing-fits-reads.Learnt,
   some-part-reads.Asked,
   some-part-reads.Learnt,
-  set-clip-drawing-reads.Asked,
-  set-clip-drawing-reads.Learnt,
-  set-rotate-x-radians-reads.Asked,
-  set-rotate-x-radians-reads.Learnt,
-  set-rotate-y-radians-reads.Asked,
-  set-rotate-y-radians-reads.Learnt,
-  set-pivot-reads.Asked,
-  set-pivot-reads.Learnt,
   both-reads.Asked,
   both-reads.Learnt,
-  set-border-reads.Asked,
-  set-border-reads.Learnt,
   with-x-reads.Asked,
   with-x-reads.Learnt,
   with-y-reads.Asked,
   with-y-reads.Learnt,
-  set-shadow-reads.Asked,
-  set-shadow-reads.Learnt,
   f32-of-word-reads.Asked,
   f32-of-word-reads.Learnt,
+  number-fits-reads.Asked,
+  number-fits-reads.Learnt,
   byte-reads.Asked,
   byte-reads.Learnt,
-  set-be-strength-reads.Asked,
-  set-be-strength-reads.Learnt,
-  shear-x-reads.Asked,
-  shear-x-reads.Learnt,
-  shear-y-reads.Asked,
-  shear-y-reads.Learnt,
-  set-iclip-rect-reads.Asked,
-  set-iclip-rect-reads.Learnt,
-  set-iclip-drawing-reads.Asked,
-  set-iclip-drawing-reads.Learnt,
-  set-secondary-color-reads.Asked,
-  set-secondary-color-reads.Learnt,
-  set-outline-color-reads.Asked,
-  set-outline-color-reads.Learnt,
-  set-shadow-color-reads.Asked,
-  set-shadow-color-reads.Learnt,
   all-alphas-reads.Asked,
   all-alphas-reads.Learnt,
-  alpha-reads.Asked,
-  alpha-reads.Learnt,
-  set-letter-spacing-reads.Asked,
-  set-letter-spacing-reads.Learnt,
+  some-u8-reads.Asked,
+  some-u8-reads.Learnt,
   wrapped-reads.Asked,
   wrapped-reads.Learnt,
   aligned-reads.Asked,
   aligned-reads.Learnt,
   numpad-reads.Asked,
   numpad-reads.Learnt,
+  font-fits-reads.Asked,
+  font-fits-reads.Learnt,
   some-name-reads.Asked,
   some-name-reads.Learnt,
-  set-font-name-reads.Asked,
-  set-font-name-reads.Learnt,
-  some-u8-reads.Asked,
-  some-u8-reads.Learnt,
-  set-font-encoding-reads.Asked,
-  set-font-encoding-reads.Learnt,
+  reset-fits-reads.Asked,
+  reset-fits-reads.Learnt,
   identity-reads.Asked,
   identity-reads.Learnt,
-  reset-of-reads.Asked,
-  reset-of-reads.Learnt,
-  set-reset-to-style-reads.Asked,
-  set-reset-to-style-reads.Learnt,
+  some-reset-reads.Asked,
+  some-reset-reads.Learnt,
+  weight-fits-reads.Asked,
+  weight-fits-reads.Learnt,
   some-u16-reads.Asked,
   some-u16-reads.Learnt,
-  set-bold-weight-reads.Asked,
-  set-bold-weight-reads.Learnt,
   some-bool-reads.Asked,
   some-bool-reads.Learnt,
-  set-italic-reads.Asked,
-  set-italic-reads.Learnt,
-  set-underline-reads.Asked,
-  set-underline-reads.Learnt,
-  set-strikeout-reads.Asked,
-  set-strikeout-reads.Learnt,
-  of-word-reads.Asked,
-  of-word-reads.Learnt,
-  set-drawing-baseline-offset-reads.Asked,
-  set-drawing-baseline-offset-reads.Learnt,
-  set-drawing-scale-reads.Asked,
-  set-drawing-scale-reads.Learnt,
-  inside-reads.Asked,
-  inside-reads.Learnt,
-  apply-t-below t,
-  apply-t.Post,
+  shift-fits-reads.Asked,
+  shift-fits-reads.Learnt,
+  some-i32-reads.Asked,
+  some-i32-reads.Learnt,
+  t-stands-reads.Asked,
+  t-stands-reads.Learnt,
   factor-reads.Asked,
   factor-reads.Learnt,
   mix-state-reads.Asked,
   mix-state-reads.Learnt,
+  apply-t-below t,
+  apply-t.Post,
+  clear-reads.Asked,
+  clear-reads.Learnt,
+  put-from-0-reads.Asked,
+  put-from-0-reads.Learnt,
+  put-from-18-reads.Asked,
+  put-from-18-reads.Learnt,
+  put-from-44-reads.Asked,
+  put-from-44-reads.Learnt,
+  put-from-70-reads.Asked,
+  put-from-70-reads.Learnt,
 )
 
-abbrev apply-tags-Inv-loop : apply-tags-lts.InvT-loop
-apply-tags-Inv-loop table first count t dur post₀ at₀ left₀ post at left = Looping (toZ w32 t) (toZ w32 dur) table first count post₀ at left post
+abbrev Inv-loop : apply-tags-lts.InvT-loop
+Inv-loop table first count deep t dur write fault₀ out₀ post₀ at₀ end fault out post at = Running (toZ w32 t) (toZ w32 dur) table deep first count post₀ end out₀ fault out at post
 
-abbrev apply-tags-μ-loop : apply-tags-lts.MeasureT-loop
-apply-tags-μ-loop table first count t dur post₀ at₀ left₀ post at left = left
+abbrev μ-loop : apply-tags-lts.MeasureT-loop
+μ-loop table first count deep t dur write fault₀ out₀ post₀ at₀ end fault out post at = end - at
 
-apply-t-returns : (t : ℕ) → apply-t-lts.Need-returns (calls-t t) (apply-t-at t) apply-t.Post
-apply-t-returns t c =
+-- ---- a turn
+
+loop-holds : (t : ℕ) → apply-tags-lts.Need-loop-holds (calls-tags t) (apply-tags-at t) apply-tags.Post Inv-loop μ-loop
+loop-holds t c = record { checking = start refl (c .before .pre .1 .0); none = c .before .pre .1 .1; same = refl }
+
+record-at-requires : (t : ℕ) → apply-tags-lts.Need-record-at-requires (calls-tags t) (apply-tags-at t) apply-tags.Post Inv-loop μ-loop
+record-at-requires t c κs = one (c .before .loop .inv .checking) (c .loop-test .taken)
+
+add-end : (t : ℕ) → apply-tags-lts.Need-add-end (calls-tags t) (apply-tags-at t) apply-tags.Post Inv-loop μ-loop
+add-end t c = omega (arith, c .before .pre .1 .0, c .before .good .0)
+
+cast-n : (t : ℕ) → apply-tags-lts.Need-cast-n (calls-tags t) (apply-tags-at t) apply-tags.Post Inv-loop μ-loop
+cast-n t c = search needs
+
+sub-t-stands : (t : ℕ) → apply-tags-lts.Need-sub-t-stands (calls-tags t) (apply-tags-at t) apply-tags.Post Inv-loop μ-loop
+sub-t-stands t c = omega (arith, c .before .before .before .loop-test .taken)
+
+sub-t-stands-2 : (t : ℕ) → apply-tags-lts.Need-sub-t-stands-2 (calls-tags t) (apply-tags-at t) apply-tags.Post Inv-loop μ-loop
+sub-t-stands-2 t c = omega (arith, c .before .before .before .loop-test .taken)
+
+apply-t-requires : (t : ℕ) → apply-tags-lts.Need-apply-t-requires (calls-tags t) (apply-tags-at t) apply-tags.Post Inv-loop μ-loop
+apply-t-requires t c κs = 
+    let l = c .before .before .before .before .before .before .before .before .before .before .loop .inv in
+    let s = c .before .before .before .before .before .before .before .before .before .before .before .before in
+    let m = t-room (c .before .before .before .before .before .before .before .before .before .before .loop .inv .checking) (c .before .before .before .before .before .before .before .before .before .loop-test .taken) (c .before .before .before .before .before .before .before .before .record-at .ensures) (c .before .before .before .before .before .before .before .match .keys49) (c .before .before .before .before .before .t-stands .ensures) (not-false _ (c .before .before .before .before .if49 .left)) in
+    (omega (arith, m .1, l .checking .tags .less, c .before .before .before .before .before .before .before .before .before .loop-test .taken, s .pre .0), (m .0, omega (arith, m .1, c .before .before .before .before .before .before .before .before .before .loop-test .taken, s .pre .1 .0), l .none))
+
+add-at : (t : ℕ) → apply-tags-lts.Need-add-at (calls-tags t) (apply-tags-at t) apply-tags.Post Inv-loop μ-loop
+add-at t c = 
+    let m = t-room (c .before .before .before .before .before .before .before .before .before .before .before .before .before .before .loop .inv .checking) (c .before .before .before .before .before .before .before .before .before .before .before .before .before .loop-test .taken) (c .before .before .before .before .before .before .before .before .before .before .before .before .record-at .ensures) (c .before .before .before .before .before .before .before .before .before .before .before .match .keys49) (c .before .before .before .before .before .before .before .before .before .t-stands .ensures) (not-false _ (c .before .before .before .before .before .before .before .before .if49 .left)) in
+    omega (arith, m .1, c .before .before .before .before .before .before .before .before .before .before .before .before .before .loop-test .taken, c .before .before .before .before .before .before .before .before .before .before .before .before .before .before .before .before .pre .1 .0, c .before .before .before .before .before .before .before .before .before .before .before .before .before .before .before .before .good .0)
+
+turn : (t : ℕ) (c : apply-tags-lts.After-row-known2 (calls-tags t) (apply-tags-at t) apply-tags.Post Inv-loop μ-loop) →
+    let s = c .before .before .before .before .before .before in
+    let l = c .before .before .before .before .loop in
+    let m = c .before .match in
+    Turned (toZ w32 (ofZ w32 (s .args .t))) (toZ w32 (ofZ w32 (s .args .dur))) (s .args .table .now) (s .args .deep) (s .args .first) (s .args .count) (s .args .st) (s .args .first + s .args .count) (s .args .out .now) (l .at) (m .fault) (m .out) (m .at) (m .post)
+unfolding applyOwn faded decodeOne decoders inRange rows identity
+turn t c =
+    let i = c .before .before .record-at .ensures in
+    let h = c .before .before .before .loop-test .taken in
+    let l = c .before .before .before .before .loop .inv in
+    let p = c .before .before .before .before .loop .post in
+    ⊎-elim (λ w. plain-turn l h 1 i (w .0 .keys1) (unjoined (w .1 .ensures)) refl (not-false _ (w .2 .left)) (sym (rw (w .3 .ensures))) (w .6) (w .7) (w .8) (w .9))
+    (⊎-elim (λ w. plain-turn l h 2 i (w .0 .keys2) (unjoined (w .1 .ensures)) refl (not-false _ (w .2 .left)) (sym (rw (w .3 .ensures))) (w .6) (w .7) (w .8) (w .9))
+    (⊎-elim (λ w. plain-turn l h 3 i (w .0 .keys3) (unjoined (w .1 .ensures)) refl (not-false _ (w .2 .left)) (sym (rw (w .4 .ensures))) (w .5) (w .6) (w .7) (w .8))
+    (⊎-elim (λ w. plain-turn l h 4 i (w .0 .keys4) (w .1 .ensures) refl (not-false _ (w .2 .left)) (sym (rw (w .5 .ensures, w .3 .ensures))) (w .6) (w .7) (w .8) (w .9))
+    (⊎-elim (λ w. plain-turn l h 5 i (w .0 .keys5) (unjoined (w .1 .ensures)) refl (not-false _ (w .2 .left)) (sym (rw (w .3 .ensures))) (w .5) (w .6) (w .7) (w .8))
+    (⊎-elim (λ w. plain-turn l h 6 i (w .0 .keys6) (unjoined (w .1 .ensures)) refl (not-false _ (w .2 .left)) (sym (rw (w .3 .ensures))) (w .5) (w .6) (w .7) (w .8))
+    (⊎-elim (λ w. plain-turn l h 7 i (w .0 .keys7) (unjoined (w .1 .ensures)) refl (not-false _ (w .2 .left)) (sym (rw (w .3 .ensures))) (w .5) (w .6) (w .7) (w .8))
+    (⊎-elim (λ w. plain-turn l h 8 i (w .0 .keys8) (unjoined (w .1 .ensures)) refl (not-false _ (w .2 .left)) (sym (rw (w .3 .ensures))) (w .5) (w .6) (w .7) (w .8))
+    (⊎-elim (λ w. plain-turn l h 9 i (w .0 .keys9) (unjoined (w .1 .ensures)) refl (not-false _ (w .2 .left)) (sym (rw (w .4 .ensures))) (w .5) (w .6) (w .7) (w .8))
+    (⊎-elim (λ w. plain-turn l h 10 i (w .0 .keys10) (unjoined (w .1 .ensures)) refl (not-false _ (w .2 .left)) (sym (rw (w .4 .ensures))) (w .5) (w .6) (w .7) (w .8))
+    (⊎-elim (λ w. plain-turn l h 11 i (w .0 .keys11) (unjoined (w .1 .ensures)) refl (not-false _ (w .2 .left)) (sym (rw (w .4 .ensures))) (w .5) (w .6) (w .7) (w .8))
+    (⊎-elim (λ w. plain-turn l h 12 i (w .0 .keys12) (w .1 .ensures) refl (not-false _ (w .2 .left)) (sym (rw (w .4 .ensures))) (w .5) (w .6) (w .7) (w .8))
+    (⊎-elim (λ w. plain-turn l h 13 i (w .0 .keys13) (unjoined (w .1 .ensures)) refl (not-false _ (w .2 .left)) (sym (rw (w .3 .ensures))) (w .5) (w .6) (w .7) (w .8))
+    (⊎-elim (λ w. plain-turn l h 14 i (w .0 .keys14) (unjoined (w .1 .ensures)) refl (not-false _ (w .2 .left)) (sym (rw (w .3 .ensures))) (w .5) (w .6) (w .7) (w .8))
+    (⊎-elim (λ w. plain-turn l h 15 i (w .0 .keys15) (unjoined (w .1 .ensures)) refl (not-false _ (w .2 .left)) (sym (rw (w .4 .ensures))) (w .5) (w .6) (w .7) (w .8))
+    (⊎-elim (λ w. plain-turn l h 16 i (w .0 .keys16) (unjoined (w .1 .ensures)) refl (not-false _ (w .2 .left)) (sym (rw (w .5 .ensures, w .4 .ensures))) (w .6) (w .7) (w .8) (w .9))
+    (⊎-elim (λ w. plain-turn l h 17 i (w .0 .keys17) (unjoined (w .1 .ensures)) refl (not-false _ (w .2 .left)) (sym (rw (w .6 .ensures, w .5 .ensures))) (w .7) (w .8) (w .9) (w .10))
+    (⊎-elim (λ w. plain-turn l h 18 i (w .0 .keys18) (unjoined (w .1 .ensures)) refl (not-false _ (w .2 .left)) (sym (rw (w .6 .ensures, w .5 .ensures))) (w .7) (w .8) (w .9) (w .10))
+    (⊎-elim (λ w. plain-turn l h 19 i (w .0 .keys19) (unjoined (w .1 .ensures)) refl (not-false _ (w .2 .left)) (sym (rw (w .5 .ensures, w .4 .ensures))) (w .6) (w .7) (w .8) (w .9))
+    (⊎-elim (λ w. plain-turn l h 20 i (w .0 .keys20) (unjoined (w .1 .ensures)) refl (not-false _ (w .2 .left)) (sym (rw (w .6 .ensures, w .5 .ensures))) (w .7) (w .8) (w .9) (w .10))
+    (⊎-elim (λ w. plain-turn l h 21 i (w .0 .keys21) (unjoined (w .1 .ensures)) refl (not-false _ (w .2 .left)) (sym (rw (w .6 .ensures, w .5 .ensures))) (w .7) (w .8) (w .9) (w .10))
+    (⊎-elim (λ w. plain-turn l h 22 i (w .0 .keys22) (unjoined (w .1 .ensures)) refl (not-false _ (w .2 .left)) (sym (rw (w .3 .ensures))) (w .5) (w .6) (w .7) (w .8))
+    (⊎-elim (λ w. plain-turn l h 23 i (w .0 .keys23) (unjoined (w .1 .ensures)) refl (not-false _ (w .2 .left)) (sym (rw (w .3 .ensures))) (w .5) (w .6) (w .7) (w .8))
+    (⊎-elim (λ w. plain-turn l h 24 i (w .0 .keys24) (unjoined (w .1 .ensures)) refl (not-false _ (w .2 .left)) (sym (rw (w .3 .ensures))) (w .5) (w .6) (w .7) (w .8))
+    (⊎-elim (λ w. plain-turn l h 25 i (w .0 .keys25) (unjoined (w .1 .ensures)) refl (not-false _ (w .2 .left)) (sym (rw (w .4 .ensures))) (w .5) (w .6) (w .7) (w .8))
+    (⊎-elim (λ w. plain-turn l h 26 i (w .0 .keys26) (w .1 .ensures) refl (not-false _ (w .2 .left)) (sym (rw (w .4 .ensures))) (w .5) (w .6) (w .7) (w .8))
+    (⊎-elim (λ w. plain-turn l h 27 i (w .0 .keys27) (unjoined (w .1 .ensures)) refl (not-false _ (w .2 .left)) (sym (rw (w .4 .ensures))) (w .5) (w .6) (w .7) (w .8))
+    (⊎-elim (λ w. plain-turn l h 28 i (w .0 .keys28) (unjoined (w .1 .ensures)) refl (not-false _ (w .2 .left)) (sym (rw (w .4 .ensures))) (w .5) (w .6) (w .7) (w .8))
+    (⊎-elim (λ w. plain-turn l h 29 i (w .0 .keys29) (unjoined (w .1 .ensures)) refl (not-false _ (w .2 .left)) (sym (rw (w .4 .ensures))) (w .5) (w .6) (w .7) (w .8))
+    (⊎-elim (λ w. plain-turn l h 30 i (w .0 .keys30) (unjoined (w .1 .ensures)) refl (not-false _ (w .2 .left)) (ap (withAlphas p) (sym (w .3 .ensures))) (w .4) (w .5) (w .6) (w .7))
+    (⊎-elim (λ w. plain-turn l h 31 i (w .0 .keys31) (unjoined (w .1 .ensures)) refl (not-false _ (w .2 .left)) (sym (rw (w .4 .ensures))) (w .5) (w .6) (w .7) (w .8))
+    (⊎-elim (λ w. plain-turn l h 32 i (w .0 .keys32) (unjoined (w .1 .ensures)) refl (not-false _ (w .2 .left)) (sym (rw (w .4 .ensures))) (w .5) (w .6) (w .7) (w .8))
+    (⊎-elim (λ w. plain-turn l h 33 i (w .0 .keys33) (unjoined (w .1 .ensures)) refl (not-false _ (w .2 .left)) (sym (rw (w .4 .ensures))) (w .5) (w .6) (w .7) (w .8))
+    (⊎-elim (λ w. plain-turn l h 34 i (w .0 .keys34) (unjoined (w .1 .ensures)) refl (not-false _ (w .2 .left)) (sym (rw (w .4 .ensures))) (w .5) (w .6) (w .7) (w .8))
+    (⊎-elim (λ w. plain-turn l h 35 i (w .0 .keys35) (unjoined (w .1 .ensures)) refl (not-false _ (w .2 .left)) (sym (rw (w .4 .ensures))) (w .5) (w .6) (w .7) (w .8))
+    (⊎-elim (λ w. plain-turn l h 36 i (w .0 .keys36) (unjoined (w .1 .ensures)) refl (not-false _ (w .2 .left)) (ap (withLine p) (sym (w .4 .ensures))) (w .5) (w .6) (w .7) (w .8))
+    (⊎-elim (λ w. plain-turn l h 37 i (w .0 .keys37) (unjoined (w .1 .ensures)) refl (not-false _ (w .2 .left)) (ap (withLine p) (sym (w .4 .ensures))) (w .5) (w .6) (w .7) (w .8))
+    (⊎-elim (λ w. plain-turn l h 38 i (w .0 .keys38) (unjoined (w .1 .ensures)) refl (not-false _ (w .2 .left)) (ap (withLine p) (sym (rw (w .4 .ensures) at (w .5 .ensures)))) (w .6) (w .7) (w .8) (w .9))
+    (⊎-elim (λ w. plain-turn l h 39 i (w .0 .keys39) (w .1 .ensures) refl (not-false _ (w .2 .left)) (sym (rw (w .4 .ensures))) (w .5) (w .6) (w .7) (w .8))
+    (⊎-elim (λ w. plain-turn l h 40 i (w .0 .keys40) (unjoined (w .1 .ensures)) refl (not-false _ (w .2 .left)) (sym (rw (w .4 .ensures))) (w .5) (w .6) (w .7) (w .8))
+    (⊎-elim (λ w. plain-turn l h 41 i (w .0 .keys41) (w .1 .ensures) refl (not-false _ (w .2 .left)) (sym (rw (w .5 .ensures, w .4 .given, w .3 .ensures))) (w .6) (w .7) (w .8) (w .9))
+    (⊎-elim (λ w. plain-turn l h 42 i (w .0 .keys42) (unjoined (w .1 .ensures)) refl (not-false _ (w .2 .left)) (sym (rw (w .4 .ensures))) (w .5) (w .6) (w .7) (w .8))
+    (⊎-elim (λ w. plain-turn l h 43 i (w .0 .keys43) (unjoined (w .1 .ensures)) refl (not-false _ (w .2 .left)) (sym (rw (w .4 .ensures))) (w .5) (w .6) (w .7) (w .8))
+    (⊎-elim (λ w. plain-turn l h 44 i (w .0 .keys44) (unjoined (w .1 .ensures)) refl (not-false _ (w .2 .left)) (sym (rw (w .4 .ensures))) (w .5) (w .6) (w .7) (w .8))
+    (⊎-elim (λ w. plain-turn l h 45 i (w .0 .keys45) (unjoined (w .1 .ensures)) refl (not-false _ (w .2 .left)) (sym (rw (w .4 .ensures))) (w .5) (w .6) (w .7) (w .8))
+    (⊎-elim (λ w. plain-turn l h 46 i (w .0 .keys46) (unjoined (w .1 .ensures)) refl (not-false _ (w .2 .left)) refl (w .3) (w .4) (w .5) (w .6))
+    (⊎-elim (λ w. plain-turn l h 47 i (w .0 .keys47) (unjoined (w .1 .ensures)) refl (not-false _ (w .2 .left)) (sym (rw (w .4 .ensures))) (w .5) (w .6) (w .7) (w .8))
+    (⊎-elim (λ w. plain-turn l h 48 i (w .0 .keys48) (unjoined (w .1 .ensures)) refl (not-false _ (w .2 .left)) (sym (rw (w .4 .ensures))) (w .5) (w .6) (w .7) (w .8))
+    (⊎-elim (λ w. let n = none-inside _ _ _ _ _ _ _ (w .5 .taken) in t-turn l h i (w .0 .keys49) (w .2 .ensures) (not-false _ (w .3 .left)) refl (n .0) (n .1) (w .4 .ensures) (w .6 .ensures) (w .7 ∙ l .none) (w .8 ∙ l .same) (w .9) (rw (w .10) (omega (arith, w .5 .taken))))
+    (λ w. let a = w .8 .ensures in let z = zero-told (w .10 .left) in t-turn l h i (w .0 .keys49) (w .2 .ensures) (not-false _ (w .3 .left)) refl (sym z ∙ a .ground) (a .state z) (w .4 .ensures) (w .11 .ensures) (rw (w .12) (omega (arith, w .10 .left))) (w .13 ∙ a .words ∙ l .same) (w .14) (w .15)))))))))))))))))))))))))))))))))))))))))))))))))) (c .before .match .came)
+
+add-at-2 : (t : ℕ) → apply-tags-lts.Need-add-at-2 (calls-tags t) (apply-tags-at t) apply-tags.Post Inv-loop μ-loop
+add-at-2 t c = omega (arith, within-end (turn t c .on), c .before .before .before .before .before .before .pre .1 .0, c .before .before .before .before .before .before .good .0)
+
+loop-less : (t : ℕ) → apply-tags-lts.Need-loop-less (calls-tags t) (apply-tags-at t) apply-tags.Post Inv-loop μ-loop
+loop-less t c = turn-less (turn t c)
+
+loop-again : (t : ℕ) → apply-tags-lts.Need-loop-again (calls-tags t) (apply-tags-at t) apply-tags.Post Inv-loop μ-loop
+loop-again t c = turn t c .on
+
+-- ---- where it ends
+
+returns : (t : ℕ) → apply-tags-lts.Need-returns (calls-tags t) (apply-tags-at t) apply-tags.Post Inv-loop μ-loop
+returns t c = 
+    let l = c .before .before .before .before .before .before .before .before .before .before .before .before .before .loop .inv in
+    let e = c .before .before .apply-t .ensures in
+    refused-is (c .if51 .taken) (inner-refused (l .checking) (c .before .before .before .before .before .before .before .before .before .before .before .before .loop-test .taken) (c .before .before .before .before .before .before .before .before .before .before .before .record-at .ensures) (c .before .before .before .before .before .before .before .before .before .before .match .keys49) (c .before .before .before .before .before .before .before .before .t-stands .ensures) (not-false _ (c .before .before .before .before .before .before .before .if49 .left)) _ (e .ground) (c .if51 .taken)) (e .words ∙ l .same)
+
+at-fault : (t : ℕ) (c : apply-tags-lts.Then52 (calls-tags t) (apply-tags-at t) apply-tags.Post Inv-loop μ-loop) →
     let s = c .before .before .before .before in
-    let a = s .args in
-    let e = inner-is (toZ w32 (ofZ w32 (a .t))) (toZ w32 (ofZ w32 (a .dur))) (a .table .now) (a .at) (a .left) (a .a) (c .before .before .record-at .ensures) (c .before .inside .ensures) (c .apply-tags .ensures) in
-    rw (toZ-ofZ w32 (a .t) (s .fits .t), toZ-ofZ w32 (a .dur) (s .fits .dur)) at e
+    told (c .before .before .loop .at + 1) ≡ fault (s .args .deep) (s .args .first) (part (s .args .table .now) (s .args .first) (s .args .count))
+unfolding inRange rows
+at-fault t c =
+    let l = c .before .before .loop .inv .checking in
+    ⊎-elim (λ w. absurd (omega (arith, w .left, c .if52 .taken)))
+    (⊎-elim (λ w. kind-refused l (w .0 .taken) 1 (w .1 .ensures) (w .2 .keys1) (unjoined (w .3 .ensures)) (not-true _ (w .4 .taken)))
+    (⊎-elim (λ w. kind-refused l (w .0 .taken) 2 (w .1 .ensures) (w .2 .keys2) (unjoined (w .3 .ensures)) (not-true _ (w .4 .taken)))
+    (⊎-elim (λ w. kind-refused l (w .0 .taken) 3 (w .1 .ensures) (w .2 .keys3) (unjoined (w .3 .ensures)) (not-true _ (w .4 .taken)))
+    (⊎-elim (λ w. kind-refused l (w .0 .taken) 4 (w .1 .ensures) (w .2 .keys4) (w .3 .ensures) (not-true _ (w .4 .taken)))
+    (⊎-elim (λ w. kind-refused l (w .0 .taken) 5 (w .1 .ensures) (w .2 .keys5) (unjoined (w .3 .ensures)) (not-true _ (w .4 .taken)))
+    (⊎-elim (λ w. kind-refused l (w .0 .taken) 6 (w .1 .ensures) (w .2 .keys6) (unjoined (w .3 .ensures)) (not-true _ (w .4 .taken)))
+    (⊎-elim (λ w. kind-refused l (w .0 .taken) 7 (w .1 .ensures) (w .2 .keys7) (unjoined (w .3 .ensures)) (not-true _ (w .4 .taken)))
+    (⊎-elim (λ w. kind-refused l (w .0 .taken) 8 (w .1 .ensures) (w .2 .keys8) (unjoined (w .3 .ensures)) (not-true _ (w .4 .taken)))
+    (⊎-elim (λ w. kind-refused l (w .0 .taken) 9 (w .1 .ensures) (w .2 .keys9) (unjoined (w .3 .ensures)) (not-true _ (w .4 .taken)))
+    (⊎-elim (λ w. kind-refused l (w .0 .taken) 10 (w .1 .ensures) (w .2 .keys10) (unjoined (w .3 .ensures)) (not-true _ (w .4 .taken)))
+    (⊎-elim (λ w. kind-refused l (w .0 .taken) 11 (w .1 .ensures) (w .2 .keys11) (unjoined (w .3 .ensures)) (not-true _ (w .4 .taken)))
+    (⊎-elim (λ w. kind-refused l (w .0 .taken) 12 (w .1 .ensures) (w .2 .keys12) (w .3 .ensures) (not-true _ (w .4 .taken)))
+    (⊎-elim (λ w. kind-refused l (w .0 .taken) 13 (w .1 .ensures) (w .2 .keys13) (unjoined (w .3 .ensures)) (not-true _ (w .4 .taken)))
+    (⊎-elim (λ w. kind-refused l (w .0 .taken) 14 (w .1 .ensures) (w .2 .keys14) (unjoined (w .3 .ensures)) (not-true _ (w .4 .taken)))
+    (⊎-elim (λ w. kind-refused l (w .0 .taken) 15 (w .1 .ensures) (w .2 .keys15) (unjoined (w .3 .ensures)) (not-true _ (w .4 .taken)))
+    (⊎-elim (λ w. kind-refused l (w .0 .taken) 16 (w .1 .ensures) (w .2 .keys16) (unjoined (w .3 .ensures)) (not-true _ (w .4 .taken)))
+    (⊎-elim (λ w. kind-refused l (w .0 .taken) 17 (w .1 .ensures) (w .2 .keys17) (unjoined (w .3 .ensures)) (not-true _ (w .4 .taken)))
+    (⊎-elim (λ w. kind-refused l (w .0 .taken) 18 (w .1 .ensures) (w .2 .keys18) (unjoined (w .3 .ensures)) (not-true _ (w .4 .taken)))
+    (⊎-elim (λ w. kind-refused l (w .0 .taken) 19 (w .1 .ensures) (w .2 .keys19) (unjoined (w .3 .ensures)) (not-true _ (w .4 .taken)))
+    (⊎-elim (λ w. kind-refused l (w .0 .taken) 20 (w .1 .ensures) (w .2 .keys20) (unjoined (w .3 .ensures)) (not-true _ (w .4 .taken)))
+    (⊎-elim (λ w. kind-refused l (w .0 .taken) 21 (w .1 .ensures) (w .2 .keys21) (unjoined (w .3 .ensures)) (not-true _ (w .4 .taken)))
+    (⊎-elim (λ w. kind-refused l (w .0 .taken) 22 (w .1 .ensures) (w .2 .keys22) (unjoined (w .3 .ensures)) (not-true _ (w .4 .taken)))
+    (⊎-elim (λ w. kind-refused l (w .0 .taken) 23 (w .1 .ensures) (w .2 .keys23) (unjoined (w .3 .ensures)) (not-true _ (w .4 .taken)))
+    (⊎-elim (λ w. kind-refused l (w .0 .taken) 24 (w .1 .ensures) (w .2 .keys24) (unjoined (w .3 .ensures)) (not-true _ (w .4 .taken)))
+    (⊎-elim (λ w. kind-refused l (w .0 .taken) 25 (w .1 .ensures) (w .2 .keys25) (unjoined (w .3 .ensures)) (not-true _ (w .4 .taken)))
+    (⊎-elim (λ w. kind-refused l (w .0 .taken) 26 (w .1 .ensures) (w .2 .keys26) (w .3 .ensures) (not-true _ (w .4 .taken)))
+    (⊎-elim (λ w. kind-refused l (w .0 .taken) 27 (w .1 .ensures) (w .2 .keys27) (unjoined (w .3 .ensures)) (not-true _ (w .4 .taken)))
+    (⊎-elim (λ w. kind-refused l (w .0 .taken) 28 (w .1 .ensures) (w .2 .keys28) (unjoined (w .3 .ensures)) (not-true _ (w .4 .taken)))
+    (⊎-elim (λ w. kind-refused l (w .0 .taken) 29 (w .1 .ensures) (w .2 .keys29) (unjoined (w .3 .ensures)) (not-true _ (w .4 .taken)))
+    (⊎-elim (λ w. kind-refused l (w .0 .taken) 30 (w .1 .ensures) (w .2 .keys30) (unjoined (w .3 .ensures)) (not-true _ (w .4 .taken)))
+    (⊎-elim (λ w. kind-refused l (w .0 .taken) 31 (w .1 .ensures) (w .2 .keys31) (unjoined (w .3 .ensures)) (not-true _ (w .4 .taken)))
+    (⊎-elim (λ w. kind-refused l (w .0 .taken) 32 (w .1 .ensures) (w .2 .keys32) (unjoined (w .3 .ensures)) (not-true _ (w .4 .taken)))
+    (⊎-elim (λ w. kind-refused l (w .0 .taken) 33 (w .1 .ensures) (w .2 .keys33) (unjoined (w .3 .ensures)) (not-true _ (w .4 .taken)))
+    (⊎-elim (λ w. kind-refused l (w .0 .taken) 34 (w .1 .ensures) (w .2 .keys34) (unjoined (w .3 .ensures)) (not-true _ (w .4 .taken)))
+    (⊎-elim (λ w. kind-refused l (w .0 .taken) 35 (w .1 .ensures) (w .2 .keys35) (unjoined (w .3 .ensures)) (not-true _ (w .4 .taken)))
+    (⊎-elim (λ w. kind-refused l (w .0 .taken) 36 (w .1 .ensures) (w .2 .keys36) (unjoined (w .3 .ensures)) (not-true _ (w .4 .taken)))
+    (⊎-elim (λ w. kind-refused l (w .0 .taken) 37 (w .1 .ensures) (w .2 .keys37) (unjoined (w .3 .ensures)) (not-true _ (w .4 .taken)))
+    (⊎-elim (λ w. kind-refused l (w .0 .taken) 38 (w .1 .ensures) (w .2 .keys38) (unjoined (w .3 .ensures)) (not-true _ (w .4 .taken)))
+    (⊎-elim (λ w. kind-refused l (w .0 .taken) 39 (w .1 .ensures) (w .2 .keys39) (w .3 .ensures) (not-true _ (w .4 .taken)))
+    (⊎-elim (λ w. kind-refused l (w .0 .taken) 40 (w .1 .ensures) (w .2 .keys40) (unjoined (w .3 .ensures)) (not-true _ (w .4 .taken)))
+    (⊎-elim (λ w. kind-refused l (w .0 .taken) 41 (w .1 .ensures) (w .2 .keys41) (w .3 .ensures) (not-true _ (w .4 .taken)))
+    (⊎-elim (λ w. kind-refused l (w .0 .taken) 42 (w .1 .ensures) (w .2 .keys42) (unjoined (w .3 .ensures)) (not-true _ (w .4 .taken)))
+    (⊎-elim (λ w. kind-refused l (w .0 .taken) 43 (w .1 .ensures) (w .2 .keys43) (unjoined (w .3 .ensures)) (not-true _ (w .4 .taken)))
+    (⊎-elim (λ w. kind-refused l (w .0 .taken) 44 (w .1 .ensures) (w .2 .keys44) (unjoined (w .3 .ensures)) (not-true _ (w .4 .taken)))
+    (⊎-elim (λ w. kind-refused l (w .0 .taken) 45 (w .1 .ensures) (w .2 .keys45) (unjoined (w .3 .ensures)) (not-true _ (w .4 .taken)))
+    (⊎-elim (λ w. kind-refused l (w .0 .taken) 46 (w .1 .ensures) (w .2 .keys46) (unjoined (w .3 .ensures)) (not-true _ (w .4 .taken)))
+    (⊎-elim (λ w. kind-refused l (w .0 .taken) 47 (w .1 .ensures) (w .2 .keys47) (unjoined (w .3 .ensures)) (not-true _ (w .4 .taken)))
+    (⊎-elim (λ w. kind-refused l (w .0 .taken) 48 (w .1 .ensures) (w .2 .keys48) (unjoined (w .3 .ensures)) (not-true _ (w .4 .taken)))
+    (⊎-elim (λ w. t-refused l (w .0 .taken) (w .1 .ensures) (w .2 .keys49) (w .4 .ensures) (not-true _ (w .5 .taken)))
+    (λ w. none-refused l (w .0 .taken) (w .1 .ensures) (w .2 .rest))))))))))))))))))))))))))))))))))))))))))))))))))) (c .before .loop-test .came)
 
-apply-tags-loop-again : (t : ℕ) → apply-tags-lts.Need-loop-again (calls-tags t) (apply-tags-at t) apply-tags.Post apply-tags-Inv-loop apply-tags-μ-loop
-unfolding applyOwn decodeOne decoders
-apply-tags-loop-again t c = turn-kind 1 refl (c .before .before .before .before .before .before .loop .inv) (c .before .before .before .before .before .loop-test .taken) (c .before .before .before .before .record-at .ensures) (c .before .before .before .match .keys1) (ap (withAlways (c .before .before .before .before .before .before .loop .post)) (sym (rw (c .before .record-at2 .ensures ∙ sym (c .before .before .before .before .record-at .ensures)) at (c .fad .ensures))))
+add-fault : (t : ℕ) → apply-tags-lts.Need-add-fault (calls-tags t) (apply-tags-at t) apply-tags.Post Inv-loop μ-loop
+add-fault t c = omega (arith, c .if52 .taken, c .before .before .before .before .pre .1 .0, c .before .before .before .before .good .0)
 
-apply-tags-loop-again-2 : (t : ℕ) → apply-tags-lts.Need-loop-again-2 (calls-tags t) (apply-tags-at t) apply-tags.Post apply-tags-Inv-loop apply-tags-μ-loop
-unfolding applyOwn decodeOne decoders
-apply-tags-loop-again-2 t c = turn-kind 2 refl (c .before .before .before .before .before .before .loop .inv) (c .before .before .before .before .before .loop-test .taken) (c .before .before .before .before .record-at .ensures) (c .before .before .before .match .keys2) (ap (withAlways (c .before .before .before .before .before .before .loop .post)) (sym (rw (c .before .before .fade-by .ensures) at (c .faded .ensures))))
+returns-2 : (t : ℕ) → apply-tags-lts.Need-returns-2 (calls-tags t) (apply-tags-at t) apply-tags.Post Inv-loop μ-loop
+returns-2 t c = refused-is (omega arith) (at-fault t c) (c .before .before .loop .inv .same)
 
-apply-tags-loop-again-3 : (t : ℕ) → apply-tags-lts.Need-loop-again-3 (calls-tags t) (apply-tags-at t) apply-tags.Post apply-tags-Inv-loop apply-tags-μ-loop
-unfolding applyOwn decodeOne decoders
-apply-tags-loop-again-3 t c = turn-kind 3 refl (c .before .before .before .before .before .before .loop .inv) (c .before .before .before .before .before .loop-test .taken) (c .before .before .before .before .record-at .ensures) (c .before .before .before .match .keys3) (ap (withPlaces (c .before .before .before .before .before .before .loop .post)) (sym (rw (c .before .some-pair .ensures) at (c .set-translate .ensures))))
+clear-requires : (t : ℕ) → apply-tags-lts.Need-clear-requires (calls-tags t) (apply-tags-at t) apply-tags.Post Inv-loop μ-loop
+clear-requires t c κs = search needs
 
-apply-tags-loop-again-4 : (t : ℕ) → apply-tags-lts.Need-loop-again-4 (calls-tags t) (apply-tags-at t) apply-tags.Post apply-tags-Inv-loop apply-tags-μ-loop
-unfolding applyOwn decodeOne decoders
-apply-tags-loop-again-4 t c = turn-kind 4 refl (c .before .before .before .before .before .before .before .loop .inv) (c .before .before .before .before .before .before .loop-test .taken) (c .before .before .before .before .before .record-at .ensures) (c .before .before .before .before .match .keys4) (ap (withPlaces (c .before .before .before .before .before .before .before .loop .post)) (sym (rw (c .before .moved .ensures, c .before .before .before .progress .ensures) at (c .set-translate2 .ensures))))
+put-from-0-requires : (t : ℕ) → apply-tags-lts.Need-put-from-0-requires (calls-tags t) (apply-tags-at t) apply-tags.Post Inv-loop μ-loop
+put-from-0-requires t c κs = c .before .clear .ensures
 
-apply-tags-loop-again-5 : (t : ℕ) → apply-tags-lts.Need-loop-again-5 (calls-tags t) (apply-tags-at t) apply-tags.Post apply-tags-Inv-loop apply-tags-μ-loop
-unfolding applyOwn decodeOne decoders
-apply-tags-loop-again-5 t c = turn-kind 5 refl (c .before .before .before .before .before .before .loop .inv) (c .before .before .before .before .before .loop-test .taken) (c .before .before .before .before .record-at .ensures) (c .before .before .before .match .keys5) (ap (withAlways (c .before .before .before .before .before .before .loop .post)) (sym (rw (c .before .radians .ensures) at (c .set-rotate-radians .ensures))))
+put-from-18-requires : (t : ℕ) → apply-tags-lts.Need-put-from-18-requires (calls-tags t) (apply-tags-at t) apply-tags.Post Inv-loop μ-loop
+put-from-18-requires t c κs = c .before .put-from-0 .ensures .clear
 
-apply-tags-loop-again-6 : (t : ℕ) → apply-tags-lts.Need-loop-again-6 (calls-tags t) (apply-tags-at t) apply-tags.Post apply-tags-Inv-loop apply-tags-μ-loop
-unfolding applyOwn decodeOne decoders
-apply-tags-loop-again-6 t c = turn-kind 6 refl (c .before .before .before .before .before .before .loop .inv) (c .before .before .before .before .before .loop-test .taken) (c .before .before .before .before .record-at .ensures) (c .before .before .before .match .keys6) (ap (withAlways (c .before .before .before .before .before .before .loop .post)) (sym (rw (c .before .above-zero .ensures) at (c .set-blur-sigma .ensures))))
+put-from-44-requires : (t : ℕ) → apply-tags-lts.Need-put-from-44-requires (calls-tags t) (apply-tags-at t) apply-tags.Post Inv-loop μ-loop
+put-from-44-requires t c κs = c .before .put-from-18 .ensures .clear
 
-apply-tags-loop-again-7 : (t : ℕ) → apply-tags-lts.Need-loop-again-7 (calls-tags t) (apply-tags-at t) apply-tags.Post apply-tags-Inv-loop apply-tags-μ-loop
-unfolding applyOwn decodeOne decoders
-apply-tags-loop-again-7 t c = turn-kind 7 refl (c .before .before .before .before .before .loop .inv) (c .before .before .before .before .loop-test .taken) (c .before .before .before .record-at .ensures) (c .before .before .match .keys7) (ap (withAlways (c .before .before .before .before .before .loop .post)) (sym (c .scale-x .ensures)))
+put-from-70-requires : (t : ℕ) → apply-tags-lts.Need-put-from-70-requires (calls-tags t) (apply-tags-at t) apply-tags.Post Inv-loop μ-loop
+put-from-70-requires t c κs = c .before .put-from-44 .ensures .clear
 
-apply-tags-loop-again-8 : (t : ℕ) → apply-tags-lts.Need-loop-again-8 (calls-tags t) (apply-tags-at t) apply-tags.Post apply-tags-Inv-loop apply-tags-μ-loop
-unfolding applyOwn decodeOne decoders
-apply-tags-loop-again-8 t c = turn-kind 8 refl (c .before .before .before .before .before .loop .inv) (c .before .before .before .before .loop-test .taken) (c .before .before .before .record-at .ensures) (c .before .before .match .keys8) (ap (withAlways (c .before .before .before .before .before .loop .post)) (sym (c .scale-y .ensures)))
+returns-3 : (t : ℕ) → apply-tags-lts.Need-returns-3 (calls-tags t) (apply-tags-at t) apply-tags.Post Inv-loop μ-loop
+returns-3 t c = 
+    let s = c .before .before .before .before .before .before .before .before .before .before .before .before .before .before .before in
+    applied-is (toZ-ofZ w32 (s .args .t) (s .fits .t)) (toZ-ofZ w32 (s .args .dur) (s .fits .dur)) (c .before .before .before .before .before .before .before .before .before .before .before .before .before .loop .inv) (c .before .before .before .before .before .before .before .before .before .before .before .if52 .left)
+    (rw (c .before .before .before .before .before .before .before .before .before .before .if53 .taken) (whole _ _ _ _ _ _ (c .before .before .before .before .before .before .before .before .clear .ensures .wide) (c .before .before .before .before .before .before .put-from-0 .ensures .is) (c .before .before .before .before .put-from-18 .ensures .is) (c .before .before .put-from-44 .ensures .is) (c .put-from-70 .ensures .is)))
 
-apply-tags-loop-again-9 : (t : ℕ) → apply-tags-lts.Need-loop-again-9 (calls-tags t) (apply-tags-at t) apply-tags.Post apply-tags-Inv-loop apply-tags-μ-loop
-unfolding applyOwn decodeOne decoders
-apply-tags-loop-again-9 t c = turn-kind 9 refl (c .before .before .before .before .before .before .before .loop .inv) (c .before .before .before .before .before .before .loop-test .taken) (c .before .before .before .before .before .record-at .ensures) (c .before .before .before .before .match .keys9) (ap (withColors (c .before .before .before .before .before .before .before .loop .post)) (sym (rw (c .before .some-rgb .ensures, c .before .before .record-at3 .ensures ∙ sym (c .before .before .before .before .before .record-at .ensures)) at (c .set-primary-color .ensures))))
-
-apply-tags-loop-again-10 : (t : ℕ) → apply-tags-lts.Need-loop-again-10 (calls-tags t) (apply-tags-at t) apply-tags.Post apply-tags-Inv-loop apply-tags-μ-loop
-unfolding applyOwn decodeOne decoders
-apply-tags-loop-again-10 t c = turn-kind 10 refl (c .before .before .before .before .before .before .loop .inv) (c .before .before .before .before .before .loop-test .taken) (c .before .before .before .before .record-at .ensures) (c .before .before .before .match .keys10) (ap (withSizes (c .before .before .before .before .before .before .loop .post)) (sym (rw (c .before .some-f32 .ensures) at (c .set-font-size .ensures))))
-
-apply-tags-loop-again-11 : (t : ℕ) → apply-tags-lts.Need-loop-again-11 (calls-tags t) (apply-tags-at t) apply-tags.Post apply-tags-Inv-loop apply-tags-μ-loop
-unfolding applyOwn decodeOne decoders
-apply-tags-loop-again-11 t c = turn-kind 11 refl (c .before .before .before .before .before .before .before .loop .inv) (c .before .before .before .before .before .before .loop-test .taken) (c .before .before .before .before .before .record-at .ensures) (c .before .before .before .before .match .keys11) (ap (withClips (c .before .before .before .before .before .before .before .loop .post)) (sym (rw (c .before .some-rect .ensures, c .before .before .record-at4 .ensures ∙ sym (c .before .before .before .before .before .record-at .ensures)) at (c .set-clip-rect .ensures))))
-
-apply-tags-loop-again-12 : (t : ℕ) → apply-tags-lts.Need-loop-again-12 (calls-tags t) (apply-tags-at t) apply-tags.Post apply-tags-Inv-loop apply-tags-μ-loop
-unfolding applyOwn decodeOne decoders
-apply-tags-loop-again-12 t c = turn-kind 12 refl (c .before .before .before .before .before .before .loop .inv) (c .before .before .before .before .before .loop-test .taken) (c .before .before .before .before .record-at .ensures) (c .before .before .before .match .keys12) (ap (withLine (c .before .before .before .before .before .before .loop .post)) (sym (rw (c .before .some-part .ensures) at (c .set-clip-drawing .ensures))))
-
-apply-tags-loop-again-13 : (t : ℕ) → apply-tags-lts.Need-loop-again-13 (calls-tags t) (apply-tags-at t) apply-tags.Post apply-tags-Inv-loop apply-tags-μ-loop
-unfolding applyOwn decodeOne decoders
-apply-tags-loop-again-13 t c = turn-kind 13 refl (c .before .before .before .before .before .before .loop .inv) (c .before .before .before .before .before .loop-test .taken) (c .before .before .before .before .record-at .ensures) (c .before .before .before .match .keys13) (ap (withAlways (c .before .before .before .before .before .before .loop .post)) (sym (rw (c .before .radians2 .ensures) at (c .set-rotate-x-radians .ensures))))
-
-apply-tags-loop-again-14 : (t : ℕ) → apply-tags-lts.Need-loop-again-14 (calls-tags t) (apply-tags-at t) apply-tags.Post apply-tags-Inv-loop apply-tags-μ-loop
-unfolding applyOwn decodeOne decoders
-apply-tags-loop-again-14 t c = turn-kind 14 refl (c .before .before .before .before .before .before .loop .inv) (c .before .before .before .before .before .loop-test .taken) (c .before .before .before .before .record-at .ensures) (c .before .before .before .match .keys14) (ap (withAlways (c .before .before .before .before .before .before .loop .post)) (sym (rw (c .before .radians3 .ensures) at (c .set-rotate-y-radians .ensures))))
-
-apply-tags-loop-again-15 : (t : ℕ) → apply-tags-lts.Need-loop-again-15 (calls-tags t) (apply-tags-at t) apply-tags.Post apply-tags-Inv-loop apply-tags-μ-loop
-unfolding applyOwn decodeOne decoders
-apply-tags-loop-again-15 t c = turn-kind 15 refl (c .before .before .before .before .before .before .loop .inv) (c .before .before .before .before .before .loop-test .taken) (c .before .before .before .before .record-at .ensures) (c .before .before .before .match .keys15) (ap (withLine (c .before .before .before .before .before .before .loop .post)) (sym (rw (c .before .some-pair2 .ensures) at (c .set-pivot .ensures))))
-
-apply-tags-loop-again-16 : (t : ℕ) → apply-tags-lts.Need-loop-again-16 (calls-tags t) (apply-tags-at t) apply-tags.Post apply-tags-Inv-loop apply-tags-μ-loop
-unfolding applyOwn decodeOne decoders
-apply-tags-loop-again-16 t c = turn-kind 16 refl (c .before .before .before .before .before .before .before .loop .inv) (c .before .before .before .before .before .before .loop-test .taken) (c .before .before .before .before .before .record-at .ensures) (c .before .before .before .before .match .keys16) (ap (withPlaces (c .before .before .before .before .before .before .before .loop .post)) (sym (rw (c .before .both .ensures, c .before .before .above-zero2 .ensures) at (c .set-border .ensures))))
-
-apply-tags-loop-again-17 : (t : ℕ) → apply-tags-lts.Need-loop-again-17 (calls-tags t) (apply-tags-at t) apply-tags.Post apply-tags-Inv-loop apply-tags-μ-loop
-unfolding applyOwn decodeOne decoders
-apply-tags-loop-again-17 t c = turn-kind 17 refl (c .before .before .before .before .before .before .before .before .loop .inv) (c .before .before .before .before .before .before .before .loop-test .taken) (c .before .before .before .before .before .before .record-at .ensures) (c .before .before .before .before .before .match .keys17) (ap (withPlaces (c .before .before .before .before .before .before .before .before .loop .post)) (sym (rw (c .before .with-x .ensures, c .before .before .above-zero3 .ensures) at (c .set-border2 .ensures))))
-
-apply-tags-loop-again-18 : (t : ℕ) → apply-tags-lts.Need-loop-again-18 (calls-tags t) (apply-tags-at t) apply-tags.Post apply-tags-Inv-loop apply-tags-μ-loop
-unfolding applyOwn decodeOne decoders
-apply-tags-loop-again-18 t c = turn-kind 18 refl (c .before .before .before .before .before .before .before .before .loop .inv) (c .before .before .before .before .before .before .before .loop-test .taken) (c .before .before .before .before .before .before .record-at .ensures) (c .before .before .before .before .before .match .keys18) (ap (withPlaces (c .before .before .before .before .before .before .before .before .loop .post)) (sym (rw (c .before .with-y .ensures, c .before .before .above-zero4 .ensures) at (c .set-border3 .ensures))))
-
-apply-tags-loop-again-19 : (t : ℕ) → apply-tags-lts.Need-loop-again-19 (calls-tags t) (apply-tags-at t) apply-tags.Post apply-tags-Inv-loop apply-tags-μ-loop
-unfolding applyOwn decodeOne decoders
-apply-tags-loop-again-19 t c = turn-kind 19 refl (c .before .before .before .before .before .before .before .loop .inv) (c .before .before .before .before .before .before .loop-test .taken) (c .before .before .before .before .before .record-at .ensures) (c .before .before .before .before .match .keys19) (ap (withPlaces (c .before .before .before .before .before .before .before .loop .post)) (sym (rw (c .before .both2 .ensures, c .before .before .above-zero5 .ensures) at (c .set-shadow .ensures))))
-
-apply-tags-loop-again-20 : (t : ℕ) → apply-tags-lts.Need-loop-again-20 (calls-tags t) (apply-tags-at t) apply-tags.Post apply-tags-Inv-loop apply-tags-μ-loop
-unfolding applyOwn decodeOne decoders
-apply-tags-loop-again-20 t c = turn-kind 20 refl (c .before .before .before .before .before .before .before .before .loop .inv) (c .before .before .before .before .before .before .before .loop-test .taken) (c .before .before .before .before .before .before .record-at .ensures) (c .before .before .before .before .before .match .keys20) (ap (withPlaces (c .before .before .before .before .before .before .before .before .loop .post)) (sym (rw (c .before .with-x2 .ensures, c .before .before .f32-of-word .ensures) at (c .set-shadow2 .ensures))))
-
-apply-tags-loop-again-21 : (t : ℕ) → apply-tags-lts.Need-loop-again-21 (calls-tags t) (apply-tags-at t) apply-tags.Post apply-tags-Inv-loop apply-tags-μ-loop
-unfolding applyOwn decodeOne decoders
-apply-tags-loop-again-21 t c = turn-kind 21 refl (c .before .before .before .before .before .before .before .before .loop .inv) (c .before .before .before .before .before .before .before .loop-test .taken) (c .before .before .before .before .before .before .record-at .ensures) (c .before .before .before .before .before .match .keys21) (ap (withPlaces (c .before .before .before .before .before .before .before .before .loop .post)) (sym (rw (c .before .with-y2 .ensures, c .before .before .f32-of-word2 .ensures) at (c .set-shadow3 .ensures))))
-
-apply-tags-loop-again-22 : (t : ℕ) → apply-tags-lts.Need-loop-again-22 (calls-tags t) (apply-tags-at t) apply-tags.Post apply-tags-Inv-loop apply-tags-μ-loop
-unfolding applyOwn decodeOne decoders
-apply-tags-loop-again-22 t c = turn-kind 22 refl (c .before .before .before .before .before .before .loop .inv) (c .before .before .before .before .before .loop-test .taken) (c .before .before .before .before .record-at .ensures) (c .before .before .before .match .keys22) (ap (withAlways (c .before .before .before .before .before .before .loop .post)) (sym (rw (c .before .byte .ensures) at (c .set-be-strength .ensures))))
-
-apply-tags-loop-again-23 : (t : ℕ) → apply-tags-lts.Need-loop-again-23 (calls-tags t) (apply-tags-at t) apply-tags.Post apply-tags-Inv-loop apply-tags-μ-loop
-unfolding applyOwn decodeOne decoders
-apply-tags-loop-again-23 t c = turn-kind 23 refl (c .before .before .before .before .before .loop .inv) (c .before .before .before .before .loop-test .taken) (c .before .before .before .record-at .ensures) (c .before .before .match .keys23) (ap (withAlways (c .before .before .before .before .before .loop .post)) (sym (c .shear-x .ensures)))
-
-apply-tags-loop-again-24 : (t : ℕ) → apply-tags-lts.Need-loop-again-24 (calls-tags t) (apply-tags-at t) apply-tags.Post apply-tags-Inv-loop apply-tags-μ-loop
-unfolding applyOwn decodeOne decoders
-apply-tags-loop-again-24 t c = turn-kind 24 refl (c .before .before .before .before .before .loop .inv) (c .before .before .before .before .loop-test .taken) (c .before .before .before .record-at .ensures) (c .before .before .match .keys24) (ap (withAlways (c .before .before .before .before .before .loop .post)) (sym (c .shear-y .ensures)))
-
-apply-tags-loop-again-25 : (t : ℕ) → apply-tags-lts.Need-loop-again-25 (calls-tags t) (apply-tags-at t) apply-tags.Post apply-tags-Inv-loop apply-tags-μ-loop
-unfolding applyOwn decodeOne decoders
-apply-tags-loop-again-25 t c = turn-kind 25 refl (c .before .before .before .before .before .before .before .loop .inv) (c .before .before .before .before .before .before .loop-test .taken) (c .before .before .before .before .before .record-at .ensures) (c .before .before .before .before .match .keys25) (ap (withClips (c .before .before .before .before .before .before .before .loop .post)) (sym (rw (c .before .some-rect2 .ensures, c .before .before .record-at5 .ensures ∙ sym (c .before .before .before .before .before .record-at .ensures)) at (c .set-iclip-rect .ensures))))
-
-apply-tags-loop-again-26 : (t : ℕ) → apply-tags-lts.Need-loop-again-26 (calls-tags t) (apply-tags-at t) apply-tags.Post apply-tags-Inv-loop apply-tags-μ-loop
-unfolding applyOwn decodeOne decoders
-apply-tags-loop-again-26 t c = turn-kind 26 refl (c .before .before .before .before .before .before .loop .inv) (c .before .before .before .before .before .loop-test .taken) (c .before .before .before .before .record-at .ensures) (c .before .before .before .match .keys26) (ap (withLine (c .before .before .before .before .before .before .loop .post)) (sym (rw (c .before .some-part2 .ensures) at (c .set-iclip-drawing .ensures))))
-
-apply-tags-loop-again-27 : (t : ℕ) → apply-tags-lts.Need-loop-again-27 (calls-tags t) (apply-tags-at t) apply-tags.Post apply-tags-Inv-loop apply-tags-μ-loop
-unfolding applyOwn decodeOne decoders
-apply-tags-loop-again-27 t c = turn-kind 27 refl (c .before .before .before .before .before .before .before .loop .inv) (c .before .before .before .before .before .before .loop-test .taken) (c .before .before .before .before .before .record-at .ensures) (c .before .before .before .before .match .keys27) (ap (withColors (c .before .before .before .before .before .before .before .loop .post)) (sym (rw (c .before .some-rgb2 .ensures, c .before .before .record-at6 .ensures ∙ sym (c .before .before .before .before .before .record-at .ensures)) at (c .set-secondary-color .ensures))))
-
-apply-tags-loop-again-28 : (t : ℕ) → apply-tags-lts.Need-loop-again-28 (calls-tags t) (apply-tags-at t) apply-tags.Post apply-tags-Inv-loop apply-tags-μ-loop
-unfolding applyOwn decodeOne decoders
-apply-tags-loop-again-28 t c = turn-kind 28 refl (c .before .before .before .before .before .before .before .loop .inv) (c .before .before .before .before .before .before .loop-test .taken) (c .before .before .before .before .before .record-at .ensures) (c .before .before .before .before .match .keys28) (ap (withColors (c .before .before .before .before .before .before .before .loop .post)) (sym (rw (c .before .some-rgb3 .ensures, c .before .before .record-at7 .ensures ∙ sym (c .before .before .before .before .before .record-at .ensures)) at (c .set-outline-color .ensures))))
-
-apply-tags-loop-again-29 : (t : ℕ) → apply-tags-lts.Need-loop-again-29 (calls-tags t) (apply-tags-at t) apply-tags.Post apply-tags-Inv-loop apply-tags-μ-loop
-unfolding applyOwn decodeOne decoders
-apply-tags-loop-again-29 t c = turn-kind 29 refl (c .before .before .before .before .before .before .before .loop .inv) (c .before .before .before .before .before .before .loop-test .taken) (c .before .before .before .before .before .record-at .ensures) (c .before .before .before .before .match .keys29) (ap (withColors (c .before .before .before .before .before .before .before .loop .post)) (sym (rw (c .before .some-rgb4 .ensures, c .before .before .record-at8 .ensures ∙ sym (c .before .before .before .before .before .record-at .ensures)) at (c .set-shadow-color .ensures))))
-
-apply-tags-loop-again-30 : (t : ℕ) → apply-tags-lts.Need-loop-again-30 (calls-tags t) (apply-tags-at t) apply-tags.Post apply-tags-Inv-loop apply-tags-μ-loop
-unfolding applyOwn decodeOne decoders
-apply-tags-loop-again-30 t c = turn-kind 30 refl (c .before .before .before .before .loop .inv) (c .before .before .before .loop-test .taken) (c .before .before .record-at .ensures) (c .before .match .keys30) (ap (withAlphas (c .before .before .before .before .loop .post)) (sym (c .all-alphas .ensures)))
-
-apply-tags-loop-again-31 : (t : ℕ) → apply-tags-lts.Need-loop-again-31 (calls-tags t) (apply-tags-at t) apply-tags.Post apply-tags-Inv-loop apply-tags-μ-loop
-unfolding applyOwn decodeOne decoders
-apply-tags-loop-again-31 t c = turn-kind 31 refl (c .before .before .before .before .before .loop .inv) (c .before .before .before .before .loop-test .taken) (c .before .before .before .record-at .ensures) (c .before .before .match .keys31) (sym (rw (c .alpha .ensures)))
-
-apply-tags-loop-again-32 : (t : ℕ) → apply-tags-lts.Need-loop-again-32 (calls-tags t) (apply-tags-at t) apply-tags.Post apply-tags-Inv-loop apply-tags-μ-loop
-unfolding applyOwn decodeOne decoders
-apply-tags-loop-again-32 t c = turn-kind 32 refl (c .before .before .before .before .before .loop .inv) (c .before .before .before .before .loop-test .taken) (c .before .before .before .record-at .ensures) (c .before .before .match .keys32) (sym (rw (c .alpha2 .ensures)))
-
-apply-tags-loop-again-33 : (t : ℕ) → apply-tags-lts.Need-loop-again-33 (calls-tags t) (apply-tags-at t) apply-tags.Post apply-tags-Inv-loop apply-tags-μ-loop
-unfolding applyOwn decodeOne decoders
-apply-tags-loop-again-33 t c = turn-kind 33 refl (c .before .before .before .before .before .loop .inv) (c .before .before .before .before .loop-test .taken) (c .before .before .before .record-at .ensures) (c .before .before .match .keys33) (sym (rw (c .alpha3 .ensures)))
-
-apply-tags-loop-again-34 : (t : ℕ) → apply-tags-lts.Need-loop-again-34 (calls-tags t) (apply-tags-at t) apply-tags.Post apply-tags-Inv-loop apply-tags-μ-loop
-unfolding applyOwn decodeOne decoders
-apply-tags-loop-again-34 t c = turn-kind 34 refl (c .before .before .before .before .before .loop .inv) (c .before .before .before .before .loop-test .taken) (c .before .before .before .record-at .ensures) (c .before .before .match .keys34) (sym (rw (c .alpha4 .ensures)))
-
-apply-tags-loop-again-35 : (t : ℕ) → apply-tags-lts.Need-loop-again-35 (calls-tags t) (apply-tags-at t) apply-tags.Post apply-tags-Inv-loop apply-tags-μ-loop
-unfolding applyOwn decodeOne decoders
-apply-tags-loop-again-35 t c = turn-kind 35 refl (c .before .before .before .before .before .before .loop .inv) (c .before .before .before .before .before .loop-test .taken) (c .before .before .before .before .record-at .ensures) (c .before .before .before .match .keys35) (ap (withSizes (c .before .before .before .before .before .before .loop .post)) (sym (rw (c .before .some-f322 .ensures) at (c .set-letter-spacing .ensures))))
-
-apply-tags-loop-again-36 : (t : ℕ) → apply-tags-lts.Need-loop-again-36 (calls-tags t) (apply-tags-at t) apply-tags.Post apply-tags-Inv-loop apply-tags-μ-loop
-unfolding applyOwn decodeOne decoders
-apply-tags-loop-again-36 t c = turn-kind 36 refl (c .before .before .before .before .before .loop .inv) (c .before .before .before .before .loop-test .taken) (c .before .before .before .record-at .ensures) (c .before .before .match .keys36) (ap (withLine (c .before .before .before .before .before .loop .post)) (sym (c .wrapped .ensures)))
-
-apply-tags-loop-again-37 : (t : ℕ) → apply-tags-lts.Need-loop-again-37 (calls-tags t) (apply-tags-at t) apply-tags.Post apply-tags-Inv-loop apply-tags-μ-loop
-unfolding applyOwn decodeOne decoders
-apply-tags-loop-again-37 t c = turn-kind 37 refl (c .before .before .before .before .before .loop .inv) (c .before .before .before .before .loop-test .taken) (c .before .before .before .record-at .ensures) (c .before .before .match .keys37) (ap (withLine (c .before .before .before .before .before .loop .post)) (sym (c .aligned .ensures)))
-
-apply-tags-loop-again-38 : (t : ℕ) → apply-tags-lts.Need-loop-again-38 (calls-tags t) (apply-tags-at t) apply-tags.Post apply-tags-Inv-loop apply-tags-μ-loop
-unfolding applyOwn decodeOne decoders
-apply-tags-loop-again-38 t c = turn-kind 38 refl (c .before .before .before .before .before .before .loop .inv) (c .before .before .before .before .before .loop-test .taken) (c .before .before .before .before .record-at .ensures) (c .before .before .before .match .keys38) (ap (withLine (c .before .before .before .before .before .before .loop .post)) (sym (rw (c .before .numpad .ensures) at (c .aligned2 .ensures))))
-
-apply-tags-loop-again-39 : (t : ℕ) → apply-tags-lts.Need-loop-again-39 (calls-tags t) (apply-tags-at t) apply-tags.Post apply-tags-Inv-loop apply-tags-μ-loop
-unfolding applyOwn decodeOne decoders
-apply-tags-loop-again-39 t c = turn-kind 39 refl (c .before .before .before .before .before .before .before .loop .inv) (c .before .before .before .before .before .before .loop-test .taken) (c .before .before .before .before .before .record-at .ensures) (c .before .before .before .before .match .keys39) (ap (withFont (c .before .before .before .before .before .before .before .loop .post)) (sym (rw (c .before .some-name .ensures, c .before .before .record-at9 .ensures ∙ sym (c .before .before .before .before .before .record-at .ensures)) at (c .set-font-name .ensures))))
-
-apply-tags-loop-again-40 : (t : ℕ) → apply-tags-lts.Need-loop-again-40 (calls-tags t) (apply-tags-at t) apply-tags.Post apply-tags-Inv-loop apply-tags-μ-loop
-unfolding applyOwn decodeOne decoders
-apply-tags-loop-again-40 t c = turn-kind 40 refl (c .before .before .before .before .before .before .loop .inv) (c .before .before .before .before .before .loop-test .taken) (c .before .before .before .before .record-at .ensures) (c .before .before .before .match .keys40) (ap (withFont (c .before .before .before .before .before .before .loop .post)) (sym (rw (c .before .some-u8 .ensures) at (c .set-font-encoding .ensures))))
-
-apply-tags-loop-again-41 : (t : ℕ) → apply-tags-lts.Need-loop-again-41 (calls-tags t) (apply-tags-at t) apply-tags.Post apply-tags-Inv-loop apply-tags-μ-loop
-unfolding applyOwn decodeOne decoders resetBy
-apply-tags-loop-again-41 t c = turn-kind 41 refl (c .before .before .before .before .before .before .before .loop .inv) (c .before .before .before .before .before .before .loop-test .taken) (c .before .before .before .before .before .record-at .ensures) (c .before .before .before .before .match .keys41) (sym (rw (c .set-reset-to-style .ensures, c .before .reset-of .ensures, c .before .before .s40 .given, c .before .before .before .identity .ensures)))
-
-apply-tags-loop-again-42 : (t : ℕ) → apply-tags-lts.Need-loop-again-42 (calls-tags t) (apply-tags-at t) apply-tags.Post apply-tags-Inv-loop apply-tags-μ-loop
-unfolding applyOwn decodeOne decoders
-apply-tags-loop-again-42 t c = turn-kind 42 refl (c .before .before .before .before .before .before .loop .inv) (c .before .before .before .before .before .loop-test .taken) (c .before .before .before .before .record-at .ensures) (c .before .before .before .match .keys42) (ap (withFont (c .before .before .before .before .before .before .loop .post)) (sym (rw (c .before .some-u16 .ensures) at (c .set-bold-weight .ensures))))
-
-apply-tags-loop-again-43 : (t : ℕ) → apply-tags-lts.Need-loop-again-43 (calls-tags t) (apply-tags-at t) apply-tags.Post apply-tags-Inv-loop apply-tags-μ-loop
-unfolding applyOwn decodeOne decoders
-apply-tags-loop-again-43 t c = turn-kind 43 refl (c .before .before .before .before .before .before .loop .inv) (c .before .before .before .before .before .loop-test .taken) (c .before .before .before .before .record-at .ensures) (c .before .before .before .match .keys43) (ap (withFont (c .before .before .before .before .before .before .loop .post)) (sym (rw (c .before .some-bool .ensures) at (c .set-italic .ensures))))
-
-apply-tags-loop-again-44 : (t : ℕ) → apply-tags-lts.Need-loop-again-44 (calls-tags t) (apply-tags-at t) apply-tags.Post apply-tags-Inv-loop apply-tags-μ-loop
-unfolding applyOwn decodeOne decoders
-apply-tags-loop-again-44 t c = turn-kind 44 refl (c .before .before .before .before .before .before .loop .inv) (c .before .before .before .before .before .loop-test .taken) (c .before .before .before .before .record-at .ensures) (c .before .before .before .match .keys44) (ap (withFont (c .before .before .before .before .before .before .loop .post)) (sym (rw (c .before .some-bool2 .ensures) at (c .set-underline .ensures))))
-
-apply-tags-loop-again-45 : (t : ℕ) → apply-tags-lts.Need-loop-again-45 (calls-tags t) (apply-tags-at t) apply-tags.Post apply-tags-Inv-loop apply-tags-μ-loop
-unfolding applyOwn decodeOne decoders
-apply-tags-loop-again-45 t c = turn-kind 45 refl (c .before .before .before .before .before .before .loop .inv) (c .before .before .before .before .before .loop-test .taken) (c .before .before .before .before .record-at .ensures) (c .before .before .before .match .keys45) (ap (withFont (c .before .before .before .before .before .before .loop .post)) (sym (rw (c .before .some-bool3 .ensures) at (c .set-strikeout .ensures))))
-
-apply-tags-loop-again-46 : (t : ℕ) → apply-tags-lts.Need-loop-again-46 (calls-tags t) (apply-tags-at t) apply-tags.Post apply-tags-Inv-loop apply-tags-μ-loop
-unfolding applyOwn decodeOne decoders
-apply-tags-loop-again-46 t c = turn-kind 46 refl (c .before .before .before .loop .inv) (c .before .before .loop-test .taken) (c .before .record-at .ensures) (c .match .keys46) (refl)
-
-apply-tags-loop-again-47 : (t : ℕ) → apply-tags-lts.Need-loop-again-47 (calls-tags t) (apply-tags-at t) apply-tags.Post apply-tags-Inv-loop apply-tags-μ-loop
-unfolding applyOwn decodeOne decoders
-apply-tags-loop-again-47 t c = turn-kind 47 refl (c .before .before .before .before .before .before .loop .inv) (c .before .before .before .before .before .loop-test .taken) (c .before .before .before .before .record-at .ensures) (c .before .before .before .match .keys47) (ap (withSizes (c .before .before .before .before .before .before .loop .post)) (sym (rw (answered (c .before .of-word .result) (c .before .of-word .ok), c .before .of-word .ensures) at (c .set-drawing-baseline-offset .ensures))))
-
-apply-tags-loop-again-48 : (t : ℕ) → apply-tags-lts.Need-loop-again-48 (calls-tags t) (apply-tags-at t) apply-tags.Post apply-tags-Inv-loop apply-tags-μ-loop
-unfolding applyOwn decodeOne decoders
-apply-tags-loop-again-48 t c = turn-kind 48 refl (c .before .before .before .before .before .before .loop .inv) (c .before .before .before .before .before .loop-test .taken) (c .before .before .before .before .record-at .ensures) (c .before .before .before .match .keys48) (ap (withLine (c .before .before .before .before .before .before .loop .post)) (sym (rw (c .before .some-u82 .ensures) at (c .set-drawing-scale .ensures))))
-
-apply-tags-loop-again-49 : (t : ℕ) → apply-tags-lts.Need-loop-again-49 (calls-tags t) (apply-tags-at t) apply-tags.Post apply-tags-Inv-loop apply-tags-μ-loop
-apply-tags-loop-again-49 t c = turn-around (c .before .before .before .before .before .before .before .loop .inv) (c .before .before .before .before .before .before .loop-test .taken) (c .before .before .before .before .before .record-at .ensures) (c .before .before .before .before .match .keys49) (c .before .before .before .inside .ensures) (mixed-is _ _ _ _ _ _ (c .before .before .before .before .before .record-at .ensures) (c .before .before .apply-t .ensures) (c .before .factor .ensures) (c .mix-state .ensures))
-
-apply-tags-loop-again-50 : (t : ℕ) → apply-tags-lts.Need-loop-again-50 (calls-tags t) (apply-tags-at t) apply-tags.Post apply-tags-Inv-loop apply-tags-μ-loop
-apply-tags-loop-again-50 t c = turn-by Group.Nothing refl (c .before .before .before .loop .inv) (c .before .before .loop-test .taken) (c .before .record-at .ensures) refl (no-kind _ (c .match .rest)) (nothing-law _ _ _ _ _)
-
-apply-tags-add-at-49 : (t : ℕ) → apply-tags-lts.Need-add-at-49 (calls-tags t) (apply-tags-at t) apply-tags.Post apply-tags-Inv-loop apply-tags-μ-loop
-apply-tags-add-at-49 t c = omega (arith, c .before .before .before .before .before .before .before .loop .inv .end, c .before .before .before .inside .ensures, c .before .before .before .before .before .before .loop-test .taken, c .before .before .before .before .before .before .before .before .before .pre, c .before .before .before .before .before .before .before .before .before .good .0)
-
-apply-tags-sub-left-49 : (t : ℕ) → apply-tags-lts.Need-sub-left-49 (calls-tags t) (apply-tags-at t) apply-tags.Post apply-tags-Inv-loop apply-tags-μ-loop
-apply-tags-sub-left-49 t c = omega (arith, c .before .before .before .before .before .before .before .loop .inv .end, c .before .before .before .inside .ensures, c .before .before .before .before .before .before .loop-test .taken, c .before .before .before .before .before .before .before .before .before .pre, c .before .before .before .before .before .before .before .before .before .good .0)
-
-apply-tags-loop-less-49 : (t : ℕ) → apply-tags-lts.Need-loop-less-49 (calls-tags t) (apply-tags-at t) apply-tags.Post apply-tags-Inv-loop apply-tags-μ-loop
-apply-tags-loop-less-49 t c = omega (arith, c .before .before .before .before .before .before .before .loop .inv .end, c .before .before .before .inside .ensures, c .before .before .before .before .before .before .loop-test .taken, c .before .before .before .before .before .before .before .before .before .pre, c .before .before .before .before .before .before .before .before .before .good .0)
-
-apply-tags-returns : (t : ℕ) → apply-tags-lts.Need-returns (calls-tags t) (apply-tags-at t) apply-tags.Post apply-tags-Inv-loop apply-tags-μ-loop
-apply-tags-returns t c = let s = c .before .before .before in loop-done (c .before .loop .inv) (c .loop-test .left) ∙ rw (toZ-ofZ w32 (s .args .t) (s .fits .t), toZ-ofZ w32 (s .args .dur) (s .fits .dur))
+returns-4 : (t : ℕ) → apply-tags-lts.Need-returns-4 (calls-tags t) (apply-tags-at t) apply-tags.Post Inv-loop μ-loop
+returns-4 t c = 
+    let s = c .before .before .before .before .before in
+    applied-is (toZ-ofZ w32 (s .args .t) (s .fits .t)) (toZ-ofZ w32 (s .args .dur) (s .fits .dur)) (c .before .before .before .loop .inv) (c .before .if52 .left) (rw (c .if53 .left) refl)
 
 pub +apply-t+apply-tags-spec : {M : Type 1} → statement M
-+apply-t+apply-tags-spec =
-    close μ-apply-t μ-apply-tags (λ t. apply-t-lts.spec (calls-t t) (apply-t-at t) apply-t.Post
-    (λ c κs. search needs) (λ c. search needs) (λ c. search needs) (λ c κs. search needs) (λ c κs. search needs) (apply-t-returns t))
-    (λ t. apply-tags-lts.spec (calls-tags t) (apply-tags-at t) apply-tags.Post apply-tags-Inv-loop apply-tags-μ-loop
-    (λ c. search needs) (λ c κs. search needs) (λ c κs. omega (arith, c .before .before .before .before .loop .inv .end, c .before .before .before .loop-test .taken, c .before .before .before .before .before .before .pre)) (λ c κs. search needs) (λ c. search needs) (λ c. search needs) (λ c. search needs) (apply-tags-loop-again t) (λ c κs. search needs) (λ c κs. search needs) (λ c. search needs) (λ c. search needs) (λ c. search needs) (apply-tags-loop-again-2 t) (λ c κs. search needs) (λ c κs. search needs) (λ c. search needs) (λ c. search needs) (λ c. search needs) (apply-tags-loop-again-3 t) (λ c κs. search needs) (λ c κs. search needs) (λ c κs. search needs) (λ c. search needs) (λ c. search needs) (λ c. search needs) (apply-tags-loop-again-4 t) (λ c κs. search needs) (λ c κs. search needs) (λ c. search needs) (λ c. search needs) (λ c. search needs) (apply-tags-loop-again-5 t) (λ c κs. search needs) (λ c κs. search needs) (λ c. search needs) (λ c. search needs) (λ c. search needs) (apply-tags-loop-again-6 t) (λ c κs. search needs) (λ c. search needs) (λ c. search needs) (λ c. search needs) (apply-tags-loop-again-7 t) (λ c κs. search needs) (λ c. search needs) (λ c. search needs) (λ c. search needs) (apply-tags-loop-again-8 t) (λ c κs. omega (arith, c .before .before .before .before .loop .inv .end, c .before .before .before .loop-test .taken, c .before .before .before .before .before .before .pre)) (λ c κs. search needs) (λ c κs. search needs) (λ c. search needs) (λ c. search needs) (λ c. search needs) (apply-tags-loop-again-9 t) (λ c κs. search needs) (λ c κs. search needs) (λ c. search needs) (λ c. search needs) (λ c. search needs) (apply-tags-loop-again-10 t) (λ c κs. omega (arith, c .before .before .before .before .loop .inv .end, c .before .before .before .loop-test .taken, c .before .before .before .before .before .before .pre)) (λ c κs. search needs) (λ c κs. search needs) (λ c. search needs) (λ c. search needs) (λ c. search needs) (apply-tags-loop-again-11 t) (λ c κs. search needs) (λ c κs. search needs) (λ c. search needs) (λ c. search needs) (λ c. search needs) (apply-tags-loop-again-12 t) (λ c κs. search needs) (λ c κs. search needs) (λ c. search needs) (λ c. search needs) (λ c. search needs) (apply-tags-loop-again-13 t) (λ c κs. search needs) (λ c κs. search needs) (λ c. search needs) (λ c. search needs) (λ c. search needs) (apply-tags-loop-again-14 t) (λ c κs. search needs) (λ c κs. search needs) (λ c. search needs) (λ c. search needs) (λ c. search needs) (apply-tags-loop-again-15 t) (λ c κs. search needs) (λ c κs. search needs) (λ c κs. search needs) (λ c. search needs) (λ c. search needs) (λ c. search needs) (apply-tags-loop-again-16 t) (λ c κs. search needs) (λ c κs. search needs) (λ c κs. search needs) (λ c. search needs) (λ c. search needs) (λ c. search needs) (apply-tags-loop-again-17 t) (λ c κs. search needs) (λ c κs. search needs) (λ c κs. search needs) (λ c. search needs) (λ c. search needs) (λ c. search needs) (apply-tags-loop-again-18 t) (λ c κs. search needs) (λ c κs. search needs) (λ c κs. search needs) (λ c. search needs) (λ c. search needs) (λ c. search needs) (apply-tags-loop-again-19 t) (λ c κs. search needs) (λ c κs. search needs) (λ c κs. search needs) (λ c. search needs) (λ c. search needs) (λ c. search needs) (apply-tags-loop-again-20 t) (λ c κs. search needs) (λ c κs. search needs) (λ c κs. search needs) (λ c. search needs) (λ c. search needs) (λ c. search needs) (apply-tags-loop-again-21 t) (λ c κs. search needs) (λ c κs. search needs) (λ c. search needs) (λ c. search needs) (λ c. search needs) (apply-tags-loop-again-22 t) (λ c κs. search needs) (λ c. search needs) (λ c. search needs) (λ c. search needs) (apply-tags-loop-again-23 t) (λ c κs. search needs) (λ c. search needs) (λ c. search needs) (λ c. search needs) (apply-tags-loop-again-24 t) (λ c κs. omega (arith, c .before .before .before .before .loop .inv .end, c .before .before .before .loop-test .taken, c .before .before .before .before .before .before .pre)) (λ c κs. search needs) (λ c κs. search needs) (λ c. search needs) (λ c. search needs) (λ c. search needs) (apply-tags-loop-again-25 t) (λ c κs. search needs) (λ c κs. search needs) (λ c. search needs) (λ c. search needs) (λ c. search needs) (apply-tags-loop-again-26 t) (λ c κs. omega (arith, c .before .before .before .before .loop .inv .end, c .before .before .before .loop-test .taken, c .before .before .before .before .before .before .pre)) (λ c κs. search needs) (λ c κs. search needs) (λ c. search needs) (λ c. search needs) (λ c. search needs) (apply-tags-loop-again-27 t) (λ c κs. omega (arith, c .before .before .before .before .loop .inv .end, c .before .before .before .loop-test .taken, c .before .before .before .before .before .before .pre)) (λ c κs. search needs) (λ c κs. search needs) (λ c. search needs) (λ c. search needs) (λ c. search needs) (apply-tags-loop-again-28 t) (λ c κs. omega (arith, c .before .before .before .before .loop .inv .end, c .before .before .before .loop-test .taken, c .before .before .before .before .before .before .pre)) (λ c κs. search needs) (λ c κs. search needs) (λ c. search needs) (λ c. search needs) (λ c. search needs) (apply-tags-loop-again-29 t) (λ c κs. search needs) (λ c. search needs) (λ c. search needs) (λ c. search needs) (apply-tags-loop-again-30 t) (λ c κs. search needs) (λ c. search needs) (λ c. search needs) (λ c. search needs) (apply-tags-loop-again-31 t) (λ c κs. search needs) (λ c. search needs) (λ c. search needs) (λ c. search needs) (apply-tags-loop-again-32 t) (λ c κs. search needs) (λ c. search needs) (λ c. search needs) (λ c. search needs) (apply-tags-loop-again-33 t) (λ c κs. search needs) (λ c. search needs) (λ c. search needs) (λ c. search needs) (apply-tags-loop-again-34 t) (λ c κs. search needs) (λ c κs. search needs) (λ c. search needs) (λ c. search needs) (λ c. search needs) (apply-tags-loop-again-35 t) (λ c κs. search needs) (λ c. search needs) (λ c. search needs) (λ c. search needs) (apply-tags-loop-again-36 t) (λ c κs. search needs) (λ c. search needs) (λ c. search needs) (λ c. search needs) (apply-tags-loop-again-37 t) (λ c κs. search needs) (λ c κs. search needs) (λ c. search needs) (λ c. search needs) (λ c. search needs) (apply-tags-loop-again-38 t) (λ c κs. omega (arith, c .before .before .before .before .loop .inv .end, c .before .before .before .loop-test .taken, c .before .before .before .before .before .before .pre)) (λ c κs. search needs) (λ c κs. search needs) (λ c. search needs) (λ c. search needs) (λ c. search needs) (apply-tags-loop-again-39 t) (λ c κs. search needs) (λ c κs. search needs) (λ c. search needs) (λ c. search needs) (λ c. search needs) (apply-tags-loop-again-40 t) (λ c κs. search needs) (λ c κs. search needs) (λ c κs. search needs) (λ c. omega (arith, c .before .before .before .before .before .before .before .loop .inv .end, c .before .before .before .before .before .before .loop-test .taken, c .before .before .before .before .before .before .before .before .before .pre, c .before .before .before .before .before .before .before .before .before .good .0)) (λ c. omega (arith, c .before .before .before .before .before .before .before .loop .inv .end, c .before .before .before .before .before .before .loop-test .taken, c .before .before .before .before .before .before .before .before .before .pre, c .before .before .before .before .before .before .before .before .before .good .0)) (λ c. omega (arith, c .before .before .before .before .before .before .before .loop .inv .end, c .before .before .before .before .before .before .loop-test .taken, c .before .before .before .before .before .before .before .before .before .pre, c .before .before .before .before .before .before .before .before .before .good .0)) (apply-tags-loop-again-41 t) (λ c κs. search needs) (λ c κs. search needs) (λ c. search needs) (λ c. search needs) (λ c. search needs) (apply-tags-loop-again-42 t) (λ c κs. search needs) (λ c κs. search needs) (λ c. search needs) (λ c. search needs) (λ c. search needs) (apply-tags-loop-again-43 t) (λ c κs. search needs) (λ c κs. search needs) (λ c. search needs) (λ c. search needs) (λ c. search needs) (apply-tags-loop-again-44 t) (λ c κs. search needs) (λ c κs. search needs) (λ c. search needs) (λ c. search needs) (λ c. search needs) (apply-tags-loop-again-45 t) (λ c. search needs) (λ c. search needs) (λ c. search needs) (apply-tags-loop-again-46 t) (λ c κs. search needs) (λ c κs. search needs) (λ c. search needs) (λ c. search needs) (λ c. search needs) (apply-tags-loop-again-47 t) (λ c κs. search needs) (λ c κs. search needs) (λ c. search needs) (λ c. search needs) (λ c. search needs) (apply-tags-loop-again-48 t) (λ c. search needs) (λ c κs. search needs) (λ c. search needs) (λ c κs. search needs) (λ c κs. search needs) (λ c κs. search needs) (apply-tags-add-at-49 t) (apply-tags-sub-left-49 t) (apply-tags-loop-less-49 t) (apply-tags-loop-again-49 t) (λ c. search needs) (λ c. search needs) (λ c. search needs) (apply-tags-loop-again-50 t) (apply-tags-returns t))
++apply-t+apply-tags-spec = close μ-apply-t μ-apply-tags
+    (λ t. apply-t-lts.spec (apply-tags-below t, apply-tags.Post) (apply-t-at t) apply-t.Post
+    (λ c. omega (arith, c .before .pre .1 .1, c .before .good .0))
+    (λ c. omega (arith, c .before .pre .1 .0))
+    (λ c κs. let p = c .before .before .before .pre in (omega (arith, p .0), (p .1 .1, p .1 .2)))
+    (λ c. let s = c .before .before .before .before in rw (toZ-ofZ w32 (s .args .t) (s .fits .t), toZ-ofZ w32 (s .args .dur) (s .fits .dur)) at (c .apply-tags .ensures)))
+    (λ t. apply-tags-lts.spec (calls-tags t) (apply-tags-at t) apply-tags.Post Inv-loop μ-loop
+    (add-end t) (loop-holds t) (record-at-requires t) (λ c κs. search needs) (λ c κs. search needs) (λ c κs. search needs) (λ c κs. search needs) (λ c κs. search needs) (λ c κs. search needs) (λ c κs. search needs) (λ c κs. search needs) (λ c κs. search needs) (λ c κs. search needs) (λ c κs. search needs) (λ c κs. search needs) (λ c κs. search needs) (λ c κs. search needs) (λ c κs. search needs) (λ c κs. search needs) (λ c κs. search needs) (λ c κs. search needs) (λ c κs. search needs) (λ c κs. search needs) (λ c κs. search needs) (λ c κs. search needs) (λ c κs. search needs) (λ c κs. search needs) (λ c κs. search needs) (λ c κs. search needs) (λ c κs. search needs) (λ c κs. search needs) (λ c κs. search needs) (λ c κs. search needs) (λ c κs. search needs) (λ c κs. search needs) (λ c κs. search needs) (λ c κs. search needs) (λ c κs. search needs) (λ c κs. search needs) (λ c κs. search needs) (λ c κs. search needs) (λ c κs. search needs) (λ c κs. search needs) (λ c κs. search needs) (λ c κs. search needs) (λ c κs. search needs) (λ c κs. search needs) (λ c κs. search needs) (λ c κs. search needs) (λ c κs. search needs) (λ c κs. search needs) (λ c κs. search needs) (λ c κs. search needs) (λ c κs. search needs) (λ c κs. search needs) (λ c κs. search needs) (λ c κs. search needs) (λ c κs. search needs) (λ c κs. search needs) (λ c κs. search needs) (λ c κs. search needs) (λ c κs. search needs) (λ c κs. search needs) (λ c κs. search needs) (λ c κs. search needs) (λ c κs. search needs) (λ c κs. search needs) (λ c κs. search needs) (λ c κs. search needs) (λ c κs. search needs) (λ c κs. search needs) (λ c κs. search needs) (λ c κs. search needs) (λ c κs. search needs) (λ c κs. search needs) (λ c κs. search needs) (λ c κs. search needs) (λ c κs. search needs) (λ c κs. search needs) (λ c κs. search needs) (λ c κs. search needs) (λ c κs. search needs) (λ c κs. search needs) (λ c κs. search needs) (λ c κs. search needs) (λ c κs. search needs) (λ c κs. search needs) (λ c κs. search needs) (λ c κs. search needs) (λ c κs. search needs) (λ c κs. search needs) (λ c κs. search needs) (λ c κs. search needs) (λ c κs. search needs) (λ c κs. search needs) (λ c κs. search needs) (λ c κs. search needs) (λ c κs. search needs) (λ c κs. search needs) (λ c κs. search needs) (λ c κs. search needs) (λ c κs. search needs) (λ c κs. search needs) (λ c κs. search needs) (λ c κs. search needs) (λ c κs. search needs) (λ c κs. search needs) (cast-n t) (sub-t-stands t) (sub-t-stands-2 t) (λ c κs. search needs) (λ c κs. search needs) (λ c κs. search needs) (apply-t-requires t) (returns t) (λ c κs. search needs) (add-at t) (add-at-2 t) (loop-less t) (loop-again t) (add-fault t) (returns-2 t) (clear-requires t) (put-from-0-requires t) (put-from-18-requires t) (put-from-44-requires t) (put-from-70-requires t) (returns-3 t) (returns-4 t))

@@ -1,26 +1,25 @@
-use mathlib.Core.Path.{_≡_, sym, ap, _∙_}
+use mathlib.Core.Path.{_≡_, sym, _∙_}
 use borrow.Author.Needs.{needs}
 use mir.Syntax.{w32}
 use mir.ValLaws.{toZ-ofZ}
-use Rattle.state.specs.Apply.{evaluateAt}
-use Rattle.evaluate.specs.Inner.{tagsAt}
-use Rattle.evaluate.specs.Evaluate.{evaluated}
+use Rattle.evaluate.proofs.Ends.{at-fault, late, stated}
 use Rattle.evaluate.proofs.evaluate_at.Statement.{statement}
 use Rattle.evaluate.proofs.evaluate_at.Tie as tie
 
 returns : tie.Need-returns
-unfolding evaluated
 returns c =
-    let s = c .before .before .before .before .before in
-    let k = rw (toZ-ofZ w32 (s .args .t) (s .fits .t), toZ-ofZ w32 (s .args .dur) (s .fits .dur)) at (c .before .before .before .check-call .ensures) in
-    rw (sym k ∙ c .before .r .given .1)
+    let s = c .before .before .before .before .before .before .before in
+    rw (toZ-ofZ w32 (s .args .t) (s .fits .t), toZ-ofZ w32 (s .args .dur) (s .fits .dur)) at (at-fault (c .before .before .before .before .before .least .ensures) (c .before .apply-tags .ensures) (c .if1 .taken))
 
 returns-2 : tie.Need-returns-2
-unfolding evaluated evaluateAt tagsAt
 returns-2 c =
-    let s = c .before .before .before .before .before .before in
-    let k = rw (toZ-ofZ w32 (s .args .t) (s .fits .t), toZ-ofZ w32 (s .args .dur) (s .fits .dur)) at (c .before .before .before .before .check-call .ensures) in
-    rw (sym k ∙ c .before .before .enum-told .given .1, c .apply-tags .ensures, c .before .identity .ensures, toZ-ofZ w32 (s .args .t) (s .fits .t), toZ-ofZ w32 (s .args .dur) (s .fits .dur))
+    let s = c .before .before .before .before .before .before .before .before .before .before .before in
+    rw (toZ-ofZ w32 (s .args .t) (s .fits .t), toZ-ofZ w32 (s .args .dur) (s .fits .dur)) at (late (c .before .before .before .before .before .before .before .before .before .least .ensures) (c .before .before .before .before .before .apply-tags .ensures) (c .before .before .before .before .if1 .left) (c .before .before .before .after-records .ensures) _ (c .before .x .given .1))
+
+returns-3 : tie.Need-returns-3
+returns-3 c =
+    let s = c .before .before .before .before .before .before .before .before .before .before in
+    rw (toZ-ofZ w32 (s .args .t) (s .fits .t), toZ-ofZ w32 (s .args .dur) (s .fits .dur)) at (stated (c .before .before .before .before .before .before .before .before .least .ensures) (c .before .before .before .before .apply-tags .ensures) (c .before .before .before .if1 .left) (c .before .before .after-records .ensures) (c .enum-told .given .1) (c .before .before .before .before .before .before .before .identity .ensures))
 
 pub evaluate-at-spec : {M : Type 1} → statement M
-evaluate-at-spec = tie.close (tie.spec (λ c κs. search needs) (λ c. search needs) (λ c. search needs) (λ c κs. search needs) (λ c κs. search needs) returns returns-2)
+evaluate-at-spec = tie.close (tie.spec (λ c κs. search needs) (λ c κs. search needs) (λ c κs. search needs) (λ c. search needs) returns (λ c κs. search needs) (λ c. search needs) (λ c. search needs) returns-2 returns-3)
