@@ -13,7 +13,7 @@ use Rattle.refusal.specs.declared.Refusal.{Refusal}
 use Rattle.refusal.specs.declared.Checked.{Checked}
 use Rattle.refusal.specs.declared.Checked.the-variants.{Good, Bad}
 use Rattle.evaluate.specs.declared.Evaluated.{Evaluated}
-use Rattle.frame.specs.Frame.{groundOf}
+use Rattle.evaluate.specs.Evaluate.{groundOf}
 use Rattle.hannuvel.specs.Packed.{packed, refusalWord}
 use Rattle.hannuvel.specs.Instant.{evaluatedWord, Signed}
 

@@ -5,13 +5,13 @@ use Prim.Native.Nat.{ℕ, _^_, _<_}
 use lib.IntN.{ℤ, pos, negsuc}
 use Rattle.refusal.specs.Refusal.{placeOf}
 use Rattle.float.specs.Float.{toWord}
-use Rattle.evaluate.specs.Evaluate.{evaluated, groundNumber, groundPlace}
+use Rattle.evaluate.specs.Evaluate.{evaluated, groundNumber, groundPlace, stateAfter}
 use Rattle.evaluate.specs.declared.Evaluated.{Evaluated}
 use Rattle.marks.specs.Answer as Marks
 use Rattle.marks.specs.Answer.{marked, markOf}
 use Rattle.marks.specs.declared.Mark.{Mark}
 use Rattle.marks.specs.declared.Marked.{Marked}
-use Rattle.frame.specs.Frame.{stateAfter}
+
 use Rattle.hannuvel.specs.Packed.{packed}
 
 -- ---- `hannuvel_evaluate_at`
