@@ -66,6 +66,7 @@ fn refused(name: &'static str, texts: Vec<String>) -> Row {
 pub fn rows() -> Vec<Row> {
     let mut rows = reading_rows();
     rows.extend(line_rows());
+    rows.extend(kind_rows());
     rows
 }
 
@@ -82,6 +83,9 @@ fn line_rows() -> Vec<Row> {
     vec![
         lines("evaluate typical lines", Evaluate, typical.clone()),
         lines("evaluate script lines", Evaluate, scripts.clone()),
+        lines("evaluate sign lines", Evaluate, texts::signs()),
+        lines("evaluate karaoke lines", Evaluate, texts::karaoke()),
+        lines("evaluate moving lines", Evaluate, texts::moves()),
         lines("evaluate a thousand flat tags", Evaluate, flat.clone()),
         lines("evaluate eight \\t deep", Evaluate, deep()),
         lines(
@@ -100,6 +104,15 @@ fn line_rows() -> Vec<Row> {
             vec![texts::beats(1_000)],
         ),
     ]
+}
+
+/// A table of one kind of tag, at one instant, for each way in which a kind is evaluated.
+fn kind_rows() -> Vec<Row> {
+    let rows = texts::kinds().map(|(name, text)| Row {
+        inputs: Input::lines(vec![text], &[texts::INSTANT], texts::DURATION),
+        ..row(name, Call::Evaluate, Vec::new())
+    });
+    rows.collect()
 }
 
 fn reading_rows() -> Vec<Row> {
