@@ -5,8 +5,8 @@ use std::hint::black_box;
 /// A round of the bench: the nanoseconds of both sides.
 type Round<'a> = &'a mut dyn FnMut() -> (f64, f64);
 
-/// Each makes the round at a place of its own. The steps between them are odd multiples of 16
-/// bytes, as a stack lies on one, so that the places differ within a cache line and within a page.
+/// Each makes the round at a place of its own. A stack lies on a multiple of 16 bytes, and a step is
+/// an odd one, so that the places differ within a cache line, and within a page too.
 pub const PLACES: [fn(Round) -> (f64, f64); 8] = [
     below::<{ STEP }>,
     below::<{ 2 * STEP }>,
@@ -35,7 +35,7 @@ mod tests {
 
     #[test]
     fn the_places_lie_apart_in_a_line_and_in_a_page() {
-        let mut addresses = PLACES.map(|place| {
+        let addresses = PLACES.map(|place| {
             let mut address = 0;
             place(&mut || {
                 let here = 0u128;
@@ -44,9 +44,11 @@ mod tests {
             });
             address
         });
-        addresses.sort_unstable();
-        for (place, address) in addresses.iter().enumerate() {
-            assert_eq!(address - addresses[0], place * STEP);
+        let mut in_a_line = addresses.map(|address| address % 64 / 16);
+        in_a_line.sort_unstable();
+        assert_eq!(in_a_line, [0, 0, 1, 1, 2, 2, 3, 3]);
+        for pair in addresses.windows(2) {
+            assert!((512..576).contains(&(pair[0] - pair[1])));
         }
     }
 }
