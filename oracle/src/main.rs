@@ -11,6 +11,7 @@ mod hex;
 mod leaves;
 mod lent;
 mod library;
+mod places;
 mod random;
 mod rule;
 mod sample;

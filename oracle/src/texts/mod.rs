@@ -1,5 +1,9 @@
 //! Texts to measure with: short ones as typesetters write them, and long ones made from pieces.
 
+mod kinds;
+
+pub use kinds::{DURATION, INSTANT, kinds};
+
 use crate::rule::refusal::MOST_BYTES;
 
 /// Short blocks, most of one tag.
@@ -10,6 +14,21 @@ pub fn typical() -> Vec<String> {
 /// Blocks of karaoke and signs, with \t, moves and clips.
 pub fn scripts() -> Vec<String> {
     lines(include_str!("scripts.txt"))
+}
+
+/// Blocks of signs: a place, a font, colours, turns, clips.
+pub fn signs() -> Vec<String> {
+    lines(include_str!("signs.txt"))
+}
+
+/// Blocks of karaoke: beats, and \t that light a syllable up and let it go.
+pub fn karaoke() -> Vec<String> {
+    lines(include_str!("karaoke.txt"))
+}
+
+/// Blocks that move and fade.
+pub fn moves() -> Vec<String> {
+    lines(include_str!("moves.txt"))
 }
 
 /// Drawings, which are clip arguments too.
@@ -193,14 +212,11 @@ mod tests {
         assert!((60..=100).contains(&texts.len()));
         assert_eq!(median(texts.iter().map(String::len).collect()), 14);
         assert_eq!(median(texts.iter().map(|text| kept(text)).collect()), 1);
-        for text in texts.iter().chain(&scripts()) {
+        let scripts = [scripts(), signs(), karaoke(), moves()].concat();
+        for text in texts.iter().chain(&scripts) {
             assert_eq!(kept(text), text.matches('\\').count(), "{text}");
         }
-        assert!(
-            scripts()
-                .iter()
-                .all(|text| (60..=200).contains(&text.len()))
-        );
+        assert!(scripts.iter().all(|text| (60..=200).contains(&text.len())));
     }
 
     #[test]
