@@ -42,7 +42,7 @@ unfoldable pub beatsFrom : List ℕ → ℕ → List Syllable
 unfolding beats
 beatsFrom ws at = beats 0 (drop at (recordsOf ws))
 
--- the first karaoke record: the syllables from it on are the same
+-- a karaoke record from which on the syllables are the same: the first
 pub record Found (ws : List ℕ) (from at : ℕ) : Type 0 where
   pub same : beatsFrom ws at ≡ beatsFrom ws from
   pub there : at < placesOf ws

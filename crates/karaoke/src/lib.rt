@@ -137,8 +137,8 @@ fn next_span(table: &[u32], w: Walk) -> Walk
 
 // ---- ground 5, and how many spans there are
 
-// Whether a record that is neither a karaoke record nor a T is in range. `table::in_range` says the same of every record, and is not asked
-// here: in two loops it is a call for each record.
+// Whether a record that is neither a karaoke record nor a T is in range, with the arms of `table::in_range`. That one stands in the loop of
+// `table::fault`: asked by a second loop it would be a call with a record in memory for both, and five times as slow.
 fn fits(r: Record) -> bool
     requires { ⌜ Plain (r .kind) ⌝ }
     ensures { λ v. ⌜ v ≡ inRange r ⌝ }
