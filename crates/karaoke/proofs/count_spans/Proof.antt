@@ -16,9 +16,6 @@ Inv-loop table end n₀ at₀ n at = (end ≡ min (placesOf table) mostPlaces) �
 abbrev μ-loop : tie.MeasureT-loop
 μ-loop table end n₀ at₀ n at = end - at
 
-least-requires : tie.Need-least-requires Inv-loop μ-loop
-least-requires c κs = search needs
-
 loop-holds : tie.Need-loop-holds Inv-loop μ-loop
 loop-holds c = (c .least .ensures, none (omega arith))
 
@@ -43,44 +40,22 @@ loop-less c = let u = c .before .past-beats .ensures .passed in let h = c .befor
 loop-again : tie.Need-loop-again Inv-loop μ-loop
 loop-again c = let l = c .before .before .before .before .before .loop .inv in (l .0, then (l .1) (c .before .past-beats .ensures .passed))
 
-sub-t-fault : tie.Need-sub-t-fault Inv-loop μ-loop
-sub-t-fault c = search needs
-
 t-fault-requires : tie.Need-t-fault-requires Inv-loop μ-loop
 t-fault-requires c κs = let l = c .before .before .before .before .loop .inv in (omega (arith, c .before .before .before .loop-test .taken), omega (arith, l .0, c .before .before .before .loop-test .taken))
-
-enum-known-x : tie.Need-enum-known-x Inv-loop μ-loop
-enum-known-x c = search needs
 
 returns-2 : tie.Need-returns-2 Inv-loop μ-loop
 returns-2 c = let l = c .before .before .before .before .before .before .before .before .loop .inv in t-refused (l .0) (l .1) (c .before .before .before .before .before .before .before .loop-test .taken) (c .before .before .before .before .before .before .record-at .ensures) (c .before .before .before .before .if3 .taken) (c .before .before .before .t-fault .ensures) (c .before .x .given .1)
 
-enum-told : tie.Need-enum-told Inv-loop μ-loop
-enum-told c = search needs
-
-cast-inside : tie.Need-cast-inside Inv-loop μ-loop
-cast-inside c = search needs
-
-add-at : tie.Need-add-at Inv-loop μ-loop
-add-at c = search needs
-
-add-at-2 : tie.Need-add-at-2 Inv-loop μ-loop
-add-at-2 c =
-    let l = c .before .before .before .before .before .before .before .before .loop .inv in
-    let a = t-next (l .0) (l .1) (c .before .before .before .before .before .before .before .loop-test .taken) (c .before .before .before .before .before .before .record-at .ensures) (c .before .before .before .before .if3 .taken) (c .before .before .before .t-fault .ensures) (c .before .enum-told .given .1) in
-    omega (arith, a .most, l .0)
-
-loop-less-2 : tie.Need-loop-less-2 Inv-loop μ-loop
-loop-less-2 c =
-    let l = c .before .before .before .before .before .before .before .before .loop .inv in
-    let a = t-next (l .0) (l .1) (c .before .before .before .before .before .before .before .loop-test .taken) (c .before .before .before .before .before .before .record-at .ensures) (c .before .before .before .before .if3 .taken) (c .before .before .before .t-fault .ensures) (c .before .enum-told .given .1) in
-    omega (arith, a .most, c .before .before .before .before .before .before .before .loop-test .taken)
-
 loop-again-2 : tie.Need-loop-again-2 Inv-loop μ-loop
 loop-again-2 c =
     let l = c .before .before .before .before .before .before .before .before .loop .inv in
-    let a = t-next (l .0) (l .1) (c .before .before .before .before .before .before .before .loop-test .taken) (c .before .before .before .before .before .before .record-at .ensures) (c .before .before .before .before .if3 .taken) (c .before .before .before .t-fault .ensures) (c .before .enum-told .given .1) in
-    (l .0, a)
+    (l .0, t-next (l .0) (l .1) (c .before .before .before .before .before .before .before .loop-test .taken) (c .before .before .before .before .before .before .record-at .ensures) (c .before .before .before .before .if3 .taken) (c .before .before .before .t-fault .ensures) (c .before .enum-told .given .1))
+
+add-at-2 : tie.Need-add-at-2 Inv-loop μ-loop
+add-at-2 c = let a = loop-again-2 c in omega (arith, a .0, a .1 .most)
+
+loop-less-2 : tie.Need-loop-less-2 Inv-loop μ-loop
+loop-less-2 c = let a = loop-again-2 c in omega (arith, a .1 .most, c .before .before .before .before .before .before .before .loop-test .taken)
 
 fits-requires : tie.Need-fits-requires Inv-loop μ-loop
 fits-requires c κs = (c .before .if1 .left, c .if3 .left)
@@ -88,23 +63,8 @@ fits-requires c κs = (c .before .if1 .left, c .if3 .left)
 returns-3 : tie.Need-returns-3 Inv-loop μ-loop
 returns-3 c = let l = c .before .before .before .before .before .before .loop .inv in other-refused (l .0) (l .1) (c .before .before .before .before .before .loop-test .taken) (c .before .before .before .before .record-at .ensures) (c .before .fits2 .ensures) (not-true _ (c .if4 .taken))
 
-add-at-3 : tie.Need-add-at-3 Inv-loop μ-loop
-add-at-3 c = search needs
-
-loop-less-3 : tie.Need-loop-less-3 Inv-loop μ-loop
-loop-less-3 c = omega arith
-
 loop-again-3 : tie.Need-loop-again-3 Inv-loop μ-loop
 loop-again-3 c = let l = c .before .before .before .before .before .before .loop .inv in (l .0, other-next (l .0) (l .1) (c .before .before .before .before .before .loop-test .taken) (c .before .before .before .before .record-at .ensures) (c .before .fits2 .ensures) (c .before .before .before .if1 .left, c .before .before .if3 .left) (not-false _ (c .if4 .left)))
-
-excess-requires : tie.Need-excess-requires Inv-loop μ-loop
-excess-requires c κs = search needs
-
-enum-known-x-2 : tie.Need-enum-known-x-2 Inv-loop μ-loop
-enum-known-x-2 c = search needs
-
-enum-told-2 : tie.Need-enum-told-2 Inv-loop μ-loop
-enum-told-2 c = search needs
 
 returns-4 : tie.Need-returns-4 Inv-loop μ-loop
 returns-4 c = let l = c .before .before .before .before .before .loop .inv in end-refused (l .0) (l .1) (c .before .before .before .before .loop-test .left) (c .before .before .before .excess .ensures) (c .before .x2 .given .1)
@@ -118,7 +78,7 @@ count-spans-spec =
     (tie.spec
     Inv-loop
     μ-loop
-    least-requires
+    (λ c κs. search needs)
     loop-holds
     record-at-requires
     past-beats-requires
@@ -127,23 +87,23 @@ count-spans-spec =
     add-n
     loop-less
     loop-again
-    sub-t-fault
+    (λ c. search needs)
     t-fault-requires
-    enum-known-x
+    (λ c. search needs)
     returns-2
-    enum-told
-    cast-inside
-    add-at
+    (λ c. search needs)
+    (λ c. search needs)
+    (λ c. search needs)
     add-at-2
     loop-less-2
     loop-again-2
     fits-requires
     returns-3
-    add-at-3
-    loop-less-3
+    (λ c. search needs)
+    (λ c. omega arith)
     loop-again-3
-    excess-requires
-    enum-known-x-2
-    enum-told-2
+    (λ c κs. search needs)
+    (λ c. search needs)
+    (λ c. search needs)
     returns-4
     returns-5)

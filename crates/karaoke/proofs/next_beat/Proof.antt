@@ -27,12 +27,6 @@ returns c =
     let l = c .before .before .loop in
     record { same = l .inv; there = there _ _ _ (l .inv) (c .before .before .before .before .pre); is = ap (λ (r : Record). r .kind) (sym (c .before .record-at .ensures)) ∙ c .if1 .taken }
 
-cast-at : tie.Need-cast-at Inv-loop μ-loop
-cast-at c = search needs
-
-add-at : tie.Need-add-at Inv-loop μ-loop
-add-at c = search needs
-
 add-at-2 : tie.Need-add-at-2 Inv-loop μ-loop
 add-at-2 c = let h = there _ _ _ (c .before .before .before .before .loop .inv) (c .before .before .before .before .before .before .pre) in search needs
 
@@ -60,8 +54,8 @@ next-beat-spec =
     loop-holds
     record-at-requires
     returns
-    cast-at
-    add-at
+    (λ c. search needs)
+    (λ c. search needs)
     add-at-2
     loop-less
     loop-again

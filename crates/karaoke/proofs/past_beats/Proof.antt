@@ -29,9 +29,6 @@ record-at-requires c κs = omega (arith, c .loop-test .taken, c .before .before 
 returns : tie.Need-returns Inv-loop μ-loop
 returns c = record { passed = c .before .before .before .loop .inv; stop = λ h k. absurd (c .if1 .taken (ap (λ (r : Record). r .kind) (c .before .record-at .ensures) ∙ k)) }
 
-numbers-fit-requires : tie.Need-numbers-fit-requires Inv-loop μ-loop
-numbers-fit-requires c κs = search needs
-
 returns-2 : tie.Need-returns-2 Inv-loop μ-loop
 unfolding inRange rows
 returns-2 c =
@@ -41,12 +38,6 @@ returns-2 c =
       passed = l .inv;
       stop = λ h k. unfit (s .args .table .now) (s .args .end) (l .at) (s .pre .1) h (c .before .before .before .record-at .ensures) (c .before .before .if1 .left) (unjoined (c .before .numbers-fit .ensures)) (not-true _ (c .if2 .taken));
     }
-
-add-at : tie.Need-add-at Inv-loop μ-loop
-add-at c = search needs
-
-loop-less : tie.Need-loop-less Inv-loop μ-loop
-loop-less c = omega arith
 
 loop-again : tie.Need-loop-again Inv-loop μ-loop
 unfolding inRange rows
@@ -69,9 +60,9 @@ past-beats-spec =
     loop-holds
     record-at-requires
     returns
-    numbers-fit-requires
+    (λ c κs. search needs)
     returns-2
-    add-at
-    loop-less
+    (λ c. search needs)
+    (λ c. omega arith)
     loop-again
     returns-3)

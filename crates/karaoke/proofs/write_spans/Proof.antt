@@ -17,15 +17,6 @@ Inv-loop table words₀ answer n walk₀ i₀ words walk i =
 abbrev μ-loop : tie.MeasureT-loop
 μ-loop table words₀ answer n walk₀ i₀ words walk i = n - i
 
-check-spans-requires : tie.Need-check-spans-requires Inv-loop μ-loop
-check-spans-requires c κs = search needs
-
-written-in-requires : tie.Need-written-in-requires Inv-loop μ-loop
-written-in-requires c κs = search needs
-
-begin-requires : tie.Need-begin-requires Inv-loop μ-loop
-begin-requires c κs = search needs
-
 loop-holds : tie.Need-loop-holds Inv-loop μ-loop
 loop-holds c =
     let ws = c .before .before .before .before .before .args .table .now in
@@ -43,12 +34,6 @@ mul-put-span c = let l = c .before .before .before .loop .inv in search needs
 put-span-requires : tie.Need-put-span-requires Inv-loop μ-loop
 put-span-requires c κs = let l = c .before .before .before .loop .inv in omega (arith, l .2, l .3, c .before .before .loop-test .taken)
 
-add-i : tie.Need-add-i Inv-loop μ-loop
-add-i c = search needs
-
-loop-less : tie.Need-loop-less Inv-loop μ-loop
-loop-less c = omega arith
-
 loop-again : tie.Need-loop-again Inv-loop μ-loop
 loop-again c =
     let s = c .before .before .before .before .before .before .before .before .before .before .before .before .args in
@@ -57,9 +42,6 @@ loop-again c =
     let v = c .before .before .before .before .next-span in
     let w = c .before .before .put-span .ensures ∙ words-turn (s .table .now) (l .inv .0) h (v .result) (v .ensures) (s .words .now) (l .words) (l .inv .2) (l .inv .1) in
     (fill-step (s .table .now) (l .inv .0) h (v .result) (v .ensures), w, l .inv .2, ap length w ∙ length-laid (take (l .i + 1) (allSpans (s .table .now))) (s .words .now))
-
-same-length : tie.Need-same-length Inv-loop μ-loop
-same-length c = search needs
 
 returns : tie.Need-returns Inv-loop μ-loop
 returns c =
@@ -75,15 +57,15 @@ write-spans-spec =
     (tie.spec
     Inv-loop
     μ-loop
-    check-spans-requires
-    written-in-requires
-    begin-requires
+    (λ c κs. search needs)
+    (λ c κs. search needs)
+    (λ c κs. search needs)
     loop-holds
     next-span-requires
     mul-put-span
     put-span-requires
-    add-i
-    loop-less
+    (λ c. search needs)
+    (λ c. omega arith)
     loop-again
-    same-length
+    (λ c. search needs)
     returns)
