@@ -15,6 +15,7 @@ use Rattle.tag.specs.Table.{placesOf}
 use Rattle.tag.specs.WellFormed.{recordsOf, tKind, holds}
 use Rattle.table.specs.Inner.{recordIn}
 use Rattle.table.proofs.Slices.{length-records, drop-records}
+use Rattle.karaoke.specs.declared.Ms.{Ms}
 use Rattle.karaoke.specs.declared.Walk.{Walk}
 use Rattle.karaoke.specs.Karaoke.{inMs, plus, Syllable, spanFrom, spansFrom}
 use Rattle.karaoke.specs.Inner.{karaokeKind, beat, beats, beatsFrom, Found, spansLeft}
@@ -83,22 +84,23 @@ module _ (ws : List ℕ) (at : ℕ) where
 
 -- ---- the walk
 
+pub length-spans : (m : Ms) (l : List Syllable) → length (spansFrom m l) ≡ length l
+unfolding spansFrom
+length-spans m [] = refl
+length-spans m (s ∷ l) = ap suc (length-spans (plus m (inMs (s .lasts))) l)
+
 module _ (ws : List ℕ) where
-  -- one syllable more is counted
-  pub counted : (at : ℕ) → at < placesOf ws → recordIn ws at .kind ≡ karaokeKind → length (beatsFrom ws at) ≡ suc (length (beatsFrom ws (at + 1)))
-  counted at h k = ap length (from-karaoke ws at h k)
+  -- where syllables are left, there is a record
+  pub there : (from at : ℕ) → beatsFrom ws at ≡ beatsFrom ws from → 0 < length (beatsFrom ws from) → at < placesOf ws
+  there from at e h =
+      ⊎-elim (λ (g : placesOf ws ≤ at). let z = ap length (sym e ∙ from-end ws at g) in absurd (omega arith)) (λ (g : at < placesOf ws). g) (le-or-lt (placesOf ws) at)
 
-  module _ (w : Walk) (at : ℕ) (f : Found ws (w .next) at) where
-    -- where spans are left, the record found is one
-    pub there : 0 < length (spansLeft ws w) → at < placesOf ws
-    unfolding spansLeft spansFrom
-    there h =
-        ⊎-elim
-        (λ (g : placesOf ws ≤ at). let e : length (spansLeft ws w) ≡ 0 = ap (λ (l : List Syllable). length (spansFrom (w .span .«end_ms») l)) (sym (f .same) ∙ from-end ws at g) in absurd (omega arith))
-        (λ (g : at < placesOf ws). g)
-        (le-or-lt (placesOf ws) at)
+  module _ (w : Walk) where
+    pub left : 0 < length (spansLeft ws w) → 0 < length (beatsFrom ws (w .next))
+    unfolding spansLeft
+    left h = omega (arith, length-spans (w .span .«end_ms») (beatsFrom ws (w .next)))
 
-    -- and its span comes next
-    pub steps : at < placesOf ws → (r : Record) → r ≡ recordIn ws at → spansLeft ws w ≡ spanFrom (w .span .«end_ms») (beat r) ∷ spansFrom (plus (w .span .«end_ms») (inMs (cs (r .w2)))) (beatsFrom ws (at + 1))
+    -- the span of the record found comes next
+    pub steps : (at : ℕ) → Found ws (w .next) at → (r : Record) → r ≡ recordIn ws at → spansLeft ws w ≡ spanFrom (w .span .«end_ms») (beat r) ∷ spansFrom (plus (w .span .«end_ms») (inMs (cs (r .w2)))) (beatsFrom ws (at + 1))
     unfolding spansLeft spansFrom
-    steps h r i = ap (spansFrom (w .span .«end_ms»)) (sym (f .same) ∙ from-karaoke ws at h (f .is h)) ∙ rw i
+    steps at f r i = ap (spansFrom (w .span .«end_ms»)) (sym (f .same) ∙ from-karaoke ws at (f .there) (f .is)) ∙ rw i

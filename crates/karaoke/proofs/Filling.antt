@@ -6,11 +6,10 @@ use Prim.Native.Nat.{ℕ, suc, _+_, _-_, _*_, _≤_, _<_, min}
 use native.Mathlib.Omega.{arith}
 use lib.Dec.{leb}
 use lib.ListN.{length, getD, take, drop, set, length-append, length-drop}
-use lib.Seq.{sets, set-at, take-length, take-add, drop-cons, drop-drop, length-take-le}
+use lib.Seq.{sets-eq, set-at, take-length, take-add, drop-cons, drop-drop, length-take-le}
 use borrow.Author.Tests.{leb-true, le-leb, lt-leb}
 use Rattle.scan.specs.Scan.{pick}
 use Rattle.rows.proofs.Laws as rows
-use Rattle.rows.proofs.Laws.{rest-is, rest-back}
 use Rattle.refusal.specs.Refusal.{mostPlaces}
 use Rattle.refusal.specs.declared.Refusal.{Refusal}
 use Rattle.refusal.specs.declared.Refusal.the-variants.{NoRoom}
@@ -19,15 +18,14 @@ use Rattle.refusal.specs.declared.Checked.the-variants.{Good, Bad}
 use Rattle.refusal.specs.declared.Answer.{Answer}
 use Rattle.refusal.specs.declared.Answer.the-variants.{Written, Refused}
 use Rattle.refusal.specs.Answer.{roomFor, unlessBad, tableAfter}
+use Rattle.tag.specs.Table.{kindWord}
 use Rattle.tag.specs.WellFormed.{recordsOf, tableGround}
 use Rattle.tag.proofs.Formed.{ground-formed}
-use Rattle.karaoke.specs.declared.Ms.{Ms}
 use Rattle.karaoke.specs.declared.KaraokeSpan.{KaraokeSpan}
 use Rattle.karaoke.specs.declared.Walk.{Walk}
-use Rattle.karaoke.specs.Karaoke.{inMs, plus, Syllable, spansFrom}
 use Rattle.karaoke.specs.Answer.{spansOf, answer, written, listAfter, after, spanWidth, spanWords, placesOf, laidSpans, wordsAfter}
-use Rattle.karaoke.specs.Inner.{beatsFrom, begun, spansLeft, writtenIn}
-use Rattle.karaoke.proofs.Beats.{beats-few}
+use Rattle.karaoke.specs.Inner.{beatsFrom, begun, spansLeft, writtenIn, counted}
+use Rattle.karaoke.proofs.Beats.{beats-few, length-spans}
 use Rattle.karaoke.proofs.Flat.{flat}
 
 -- ---- three words a span
@@ -35,21 +33,22 @@ use Rattle.karaoke.proofs.Flat.{flat}
 wide : (s : KaraokeSpan) → length (spanWords s) ≡ spanWidth
 wide s = refl
 
-pub put-room : (t : List ℕ) (s : KaraokeSpan) → spanWidth ≤ length t → sets t 0 (spanWords s) ≡ laidSpans t (s ∷ [])
-put-room t s h = rows.put-room spanWidth spanWords wide t s h
-
-pub put-none : (t : List ℕ) (s : KaraokeSpan) → length t < spanWidth → t ≡ laidSpans t (s ∷ [])
-put-none t s h = rows.put-none spanWidth spanWords wide t s h
+pub put-at : (t : List ℕ) (k : ℕ) (s : KaraokeSpan) → k + spanWidth ≤ length t
+    → set (set (set t k (kindWord (s .kind))) (k + 1) (s .«start_ms» .0)) (k + 2) (s .«end_ms» .0) ≡ take k t ++ laidSpans (drop k t) (s ∷ [])
+put-at t k s h =
+    let l = rows.laid-more spanWidth spanWords (drop k t) s [] (omega (arith, length-drop k t)) in
+    let e = sets-eq (spanWords s) t k h ∙ append-assoc (take k t) (spanWords s) (drop (k + spanWidth) t) in
+    let z : k + 1 ≡ suc k = omega arith in
+    let y : k + 2 ≡ suc (suc k) = omega arith in
+    rw (z, y) (e ∙ rw (l, rows.laid-nil spanWidth spanWords (drop spanWidth (drop k t)), drop-drop spanWidth k t))
 
 pub length-laid : (l : List KaraokeSpan) (t : List ℕ) → length (laidSpans t l) ≡ length t
 length-laid l t = rows.length-laid spanWidth spanWords wide l t
 
 -- ---- grounds 5 and 9
 
-length-spans : (m : Ms) (l : List Syllable) → length (spansFrom m l) ≡ length l
-unfolding spansFrom
-length-spans m [] = refl
-length-spans m (s ∷ l) = ap suc (length-spans (plus m (inMs (s .lasts))) l)
+apart : {r : Refusal} {n : ℕ} → Refused r ≡ Written n → ⊥
+apart e = let z : _≡_ {A = ℕ} 0 1 = cc in omega arith
 
 module _ (ws : List ℕ) where
   -- all spans, in the code's words
@@ -86,22 +85,33 @@ module _ (ws : List ℕ) where
     pub outcome : {a : Answer} → a ≡ answer ws places → Outcome a
     outcome e = subst Outcome (sym e) outcome-is
 
-    module _ {c : Checked} (e : c ≡ tableGround ws) where
-      pub refused-table : {r : Refusal} → c ≡ Bad r → Refused r ≡ answer ws places
+    module _ {a : Answer} (e : a ≡ counted ws) where
+      pub refused-table : {r : Refusal} → a ≡ Refused r → Refused r ≡ answer ws places
       unfolding answer
-      refused-table k = rw (sym e ∙ k)
+      refused-table {r} k = go (tableGround ws) (sym k ∙ e)
+        where
+          go : (c : Checked) → Refused r ≡ unlessBad c (Written (length (beatsFrom ws 0))) → Refused r ≡ unlessBad c (roomFor (length (spansOf ws)) places)
+          go Good q = absurd (apart q)
+          go (Bad b) q = q
 
-      module _ {n m : ℕ} (k : c ≡ Good) (i : n ≡ length (beatsFrom ws 0)) (q : m ≡ min places mostPlaces) where
+      module _ {n m : ℕ} (k : a ≡ Written n) (q : m ≡ min places mostPlaces) where
+        good : (tableGround ws ≡ Good) × (n ≡ length (beatsFrom ws 0))
+        good = go (tableGround ws) (sym k ∙ e)
+          where
+            go : (c : Checked) → Written n ≡ unlessBad c (Written (length (beatsFrom ws 0))) → (c ≡ Good) × (n ≡ length (beatsFrom ws 0))
+            go Good z = (refl, cc)
+            go (Bad b) z = absurd (apart (sym z))
+
         needed : length (spansOf ws) ≡ n
-        needed = ap length (flat ws (sym e ∙ k)) ∙ length-all ∙ sym i
+        needed = ap length (flat ws (good .0)) ∙ length-all ∙ sym (good .1)
 
         pub room-enough : n ≤ m → Written n ≡ answer ws places
         unfolding answer
-        room-enough h = rw (sym e ∙ k, needed, le-leb n (min places mostPlaces) (omega arith))
+        room-enough h = rw (good .0, needed, le-leb n (min places mostPlaces) (omega arith))
 
         pub room-lacking : m < n → Refused (NoRoom n) ≡ answer ws places
         unfolding answer
-        room-lacking h = rw (sym e ∙ k, needed, lt-leb n (min places mostPlaces) (omega arith))
+        room-lacking h = rw (good .0, needed, lt-leb n (min places mostPlaces) (omega arith))
 
   -- ---- one span after the other
 
@@ -129,17 +139,12 @@ module _ (ws : List ℕ) where
       pub fill-next : take (i + 1) allSpans ≡ take i allSpans ++ (v .span ∷ [])
       fill-next = take-add i 1 allSpans ∙ ap (λ (l : List KaraokeSpan). take i allSpans ++ take 1 l) next-is
 
-      -- the words then: p is what was written into those from k on
-      pub words-turn : (t u p : List ℕ) (k : ℕ) → n * 3 ≤ length t → u ≡ laidSpans t (take i allSpans) → k ≡ 3 * i → p ≡ laidSpans (take (length u - k) (drop k u)) (v .span ∷ []) →
-          take k u ++ (p ++ drop (length u - k) (drop k u)) ≡ laidSpans t (take (i + 1) allSpans)
-      words-turn t u p k g d q o =
-          let l : length u ≡ length t = ap length d ∙ length-laid (take i allSpans) t in
+      -- the words then
+      pub words-turn : (t u : List ℕ) → n * 3 ≤ length t → u ≡ laidSpans t (take i allSpans) → take (3 * i) u ++ laidSpans (drop (3 * i) u) (v .span ∷ []) ≡ laidSpans t (take (i + 1) allSpans)
+      words-turn t u g d =
           let z : length (take i allSpans) ≡ i = length-take-le i allSpans (omega (arith, f .enough)) in
-          let m : k ≡ min (spanWidth * length (take i allSpans)) (length t) = omega arith in
-          rest-back k u p (omega arith)
-          ∙ ap (λ (x : List ℕ). take k u ++ x) (o ∙ ap (λ (x : List ℕ). laidSpans x (v .span ∷ [])) (rest-is k u))
-          ∙ ap (λ (x : List ℕ). take k x ++ laidSpans (drop k x) (v .span ∷ [])) d
-          ∙ sym (ap (laidSpans t) fill-next ∙ rows.laid-append spanWidth spanWords wide (take i allSpans) (v .span ∷ []) t k m)
+          let m : 3 * i ≡ min (spanWidth * length (take i allSpans)) (length t) = omega arith in
+          rw d (sym (ap (laidSpans t) fill-next ∙ rows.laid-append spanWidth spanWords wide (take i allSpans) (v .span ∷ []) t (3 * i) m))
 
       -- the list then
       pub list-turn : (l m : List KaraokeSpan) → n ≤ length l → m ≡ written (take i allSpans) l → set m i (v .span) ≡ written (take (i + 1) allSpans) l

@@ -1,4 +1,5 @@
 pub mod Beats
+pub mod Counting
 pub mod Flat
 pub mod Filling
 pub mod Passing

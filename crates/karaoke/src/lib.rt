@@ -1,19 +1,22 @@
 // Karaoke: the spans that the karaoke tags of a table make, and how far an instant is in one.
 ghost use mathlib.Core.Path.{_≡_};
-ghost use mathlib.Core.List.{[], _∷_};
-ghost use Prim.Native.Nat.{_<_};
-ghost use lib.ListN.{length};
+ghost use mathlib.Core.List.{[], _∷_, _++_};
+ghost use Prim.Native.Nat.{_+_, _≤_, _<_};
+ghost use lib.ListN.{length, take, drop};
 ghost use Rattle.tag.specs.Decode.{beatOf};
 ghost use Rattle.tag.specs.Table.{kindWord};
+ghost use Rattle.tag.specs.Range.{inRange};
+ghost use Rattle.table.specs.Inner.{Inside};
 ghost use Rattle.karaoke.specs.Karaoke.{inMs, plus as plusMs};
 ghost use Rattle.karaoke.specs.Answer.{answer as answerOf, laidSpans, Answered, AnsweredWords};
 ghost use Rattle.karaoke.specs.Progress.{progressIn, progressed, whole};
-ghost use Rattle.karaoke.specs.Inner.{beatsFrom, Found, begun, spansLeft, writtenIn};
+ghost use Rattle.karaoke.specs.Inner.{beatsFrom, Found, begun, spansLeft, writtenIn, Plain, Run, counted};
 use refusal::Answer;
 use refusal::Checked;
 use refusal::Refusal;
 use tag::Cs;
 use tag::KaraokeKind;
+use tag::Record;
 
 // Milliseconds, in which spans count: never taken for centiseconds.
 pub struct Ms(pub u32);
@@ -83,22 +86,22 @@ fn begin() -> Walk
 fn kind_of(w: u32) -> KaraokeKind
     ensures { λ r. ⌜ r ≡ beatOf w ⌝ }
 {
-    if w == 0 {
-        KaraokeKind::Fill
+    if 1 < w {
+        KaraokeKind::Outline
     } else if w == 1 {
         KaraokeKind::Sweep
     } else {
-        KaraokeKind::Outline
+        KaraokeKind::Fill
     }
 }
 
-// The first karaoke record from `from` on that is in no T; behind the last record where there is none. A T is passed over with all that is
-// inside it.
+// The first karaoke record from `from` on that is in no T. A T is passed over with all that is inside it.
 fn next_beat(table: &[u32], from: usize) -> usize
+    requires { ⌜ 0 < length (beatsFrom (now table) from) ⌝ }
     ensures { λ r. ⌜ Found (now (table .entry)) from r ⌝ }
 {
     let mut at = from;
-    while at < table.len() / 8 {
+    loop {
         let r = table::record_at(table, at);
         let kind = r.kind;
         if kind == 46 {
@@ -110,7 +113,6 @@ fn next_beat(table: &[u32], from: usize) -> usize
             at += 1;
         }
     }
-    at
 }
 
 // The walk, one span further.
@@ -133,17 +135,95 @@ fn next_span(table: &[u32], w: Walk) -> Walk
     }
 }
 
-// How many spans there are.
-fn count_spans(table: &[u32]) -> usize
-    ensures { λ r. ⌜ r ≡ length (beatsFrom (now (table .entry)) 0) ⌝ }
+// ---- ground 5, and how many spans there are
+
+// Whether a record that is neither a karaoke record nor a T is in range, with the arms of `table::in_range`. That one stands in the loop of
+// `table::fault`: asked by a second loop it would be a call with a record in memory for both, and five times as slow.
+fn fits(r: Record) -> bool
+    requires { ⌜ Plain (r .kind) ⌝ }
+    ensures { λ v. ⌜ v ≡ inRange r ⌝ }
 {
-    let mut n = 0;
-    let mut at = next_beat(table, 0);
-    while at < table.len() / 8 {
-        n += 1;
-        at = next_beat(table, at + 1);
+    let kind = r.kind;
+    match kind {
+        5 | 7 | 10 | 13 | 16 | 18 | 20 | 23 | 35 => table::float_fits(r),
+        6 | 8 | 14 | 17 | 19 | 21 | 24 => table::float_fits(r),
+        9 | 27 | 29 => table::colour_fits(r),
+        28 => table::colour_fits(r),
+        22 | 30 | 32 | 34 | 38 | 40 | 48 => table::number_fits(r, 0, 255),
+        31 | 33 => table::number_fits(r, 0, 255),
+        3 | 15 => table::pair_fits(r),
+        4 => table::move_fits(r),
+        1 => table::numbers_fit(r, 2147483647, 2147483647),
+        2 => table::fade_fits(r),
+        11 | 25 => table::rect_fits(r),
+        12 | 26 => table::drawing_fits(r),
+        36 => table::number_fits(r, 0, 3),
+        37 => table::number_fits(r, 1, 9),
+        39 => table::font_fits(r),
+        41 => table::reset_fits(r),
+        42 => table::weight_fits(r),
+        43 | 45 => table::number_fits(r, 0, 1),
+        44 => table::number_fits(r, 0, 1),
+        47 => table::shift_fits(r),
+        _ => false,
     }
-    n
+}
+
+// Behind the karaoke records in range that follow one another from `from` on, up to `end`.
+fn past_beats(table: &[u32], from: usize, end: usize) -> usize
+    requires { ⌜ (from ≤ end) × Inside (now table) 0 end ⌝ }
+    ensures { λ r. ⌜ Run (now (table .entry)) end from r ⌝ }
+{
+    let mut at = from;
+    while at < end {
+        let r = table::record_at(table, at);
+        let kind = r.kind;
+        if kind != 46 {
+            return at;
+        }
+        if !table::numbers_fit(r, 2, 1000000000) {
+            return at;
+        }
+        at += 1;
+    }
+    at
+}
+
+// Ground 5, or how many spans there are: each record is checked and counted in one pass, a T with all that is inside it.
+fn count_spans(table: &[u32]) -> Answer
+    ensures { λ r. ⌜ r ≡ counted (now (table .entry)) ⌝ }
+{
+    let end = scan::least(table.len() / 8, 1024);
+    let mut n = 0;
+    let mut at = 0;
+    while at < end {
+        let r = table::record_at(table, at);
+        let kind = r.kind;
+        if kind == 46 {
+            let next = past_beats(table, at, end);
+            if next == at {
+                return Answer::Refused(Refusal::TableMalformed(at));
+            }
+            n += next - at;
+            at = next;
+        } else if kind == 49 {
+            let words = table;
+            if let Checked::Bad(x) = table::t_fault(words, at, end - at, r) {
+                return Answer::Refused(x);
+            }
+            let inside = r.w5 as usize;
+            at += 1 + inside;
+        } else {
+            if !fits(r) {
+                return Answer::Refused(Refusal::TableMalformed(at));
+            }
+            at += 1;
+        }
+    }
+    match table::excess(table) {
+        Checked::Bad(x) => Answer::Refused(x),
+        Checked::Good => Answer::Written(n),
+    }
 }
 
 // ---- the calls
@@ -152,10 +232,9 @@ fn count_spans(table: &[u32]) -> usize
 fn check_spans(table: &[u32], places: usize) -> Answer
     ensures { λ r. ⌜ r ≡ answerOf (now (table .entry)) places ⌝ }
 {
-    match table::check_table(table) {
-        Checked::Bad(r) => Answer::Refused(r),
-        Checked::Good => {
-            let n = count_spans(table);
+    match count_spans(table) {
+        Answer::Refused(r) => Answer::Refused(r),
+        Answer::Written(n) => {
             if n <= scan::least(places, 1024) {
                 return Answer::Written(n);
             }
@@ -184,18 +263,17 @@ fn kind_word(k: KaraokeKind) -> u32
     }
 }
 
-// Writes a span's three words at the front of the words, where there is room for them.
-fn put_span(words: &mut [u32], s: KaraokeSpan)
-    ensures { λ _. ⌜ now (words .exit) ≡ laidSpans (now (words .entry)) (s ∷ []) ⌝ }
+// Writes a span's three words from the word `k` on.
+fn put_span(words: &mut [u32], k: usize, s: KaraokeSpan)
+    requires { ⌜ k + 3 ≤ length (now words) ⌝ }
+    ensures { λ _. ⌜ now (words .exit) ≡ take k (now (words .entry)) ++ laidSpans (drop k (now (words .entry))) (s ∷ []) ⌝ }
 {
     let kind = s.kind;
     let start = s.start_ms;
     let end = s.end_ms;
-    if 3 <= words.len() {
-        words[0] = kind_word(kind);
-        words[1] = start.0;
-        words[2] = end.0;
-    }
+    words[k] = kind_word(kind);
+    words[k + 1] = start.0;
+    words[k + 2] = end.0;
 }
 
 // 01, Karaoke, for the C interface: the spans of the tags that the table stands for, three words each, into the lent words.
@@ -208,7 +286,7 @@ pub fn write_spans(table: &[u32], words: &mut [u32]) -> Answer
     let mut i = 0;
     while i < n {
         walk = next_span(table, walk);
-        put_span(&mut words[3 * i..], walk.span);
+        put_span(words, 3 * i, walk.span);
         i += 1;
     }
     answer

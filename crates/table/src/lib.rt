@@ -332,7 +332,7 @@ pub fn t_fault(table: &[u32], at: usize, left: usize, r: Record) -> Checked
 }
 
 // The excess over 1,024 records, or a broken one behind the whole ones.
-fn excess(table: &[u32]) -> Checked
+pub fn excess(table: &[u32]) -> Checked
     ensures { λ r. ⌜ r ≡ excessOf (now (table .entry)) ⌝ }
 {
     let places = table.len() / 8;

@@ -17,19 +17,6 @@ Inv-loop table words₀ answer n walk₀ i₀ words walk i =
 abbrev μ-loop : tie.MeasureT-loop
 μ-loop table words₀ answer n walk₀ i₀ words walk i = n - i
 
--- src/lib.rt:197:9
-check-spans-requires : tie.Need-check-spans-requires Inv-loop μ-loop
-check-spans-requires c κs = search needs
-
--- src/lib.rt:198:9
-written-in-requires : tie.Need-written-in-requires Inv-loop μ-loop
-written-in-requires c κs = search needs
-
--- src/lib.rt:199:9
-begin-requires : tie.Need-begin-requires Inv-loop μ-loop
-begin-requires c κs = search needs
-
--- src/lib.rt:201:5
 loop-holds : tie.Need-loop-holds Inv-loop μ-loop
 loop-holds c =
     let ws = c .before .before .before .before .before .args .table .now in
@@ -38,57 +25,24 @@ loop-holds c =
     let h = lets ws (outcome ws (placesOf t) (c .before .before .check-spans .ensures)) in
     (fill-start ws _ (omega (arith, e, h .0)) (c .begin .ensures), sym (laid-nil spanWidth spanWords t), omega (arith, e, h .1), refl)
 
--- src/lib.rt:202:9
 next-span-requires : tie.Need-next-span-requires Inv-loop μ-loop
 next-span-requires c κs = fill-more _ (c .before .loop .inv .0) (c .loop-test .taken)
 
--- src/lib.rt:203:29
 mul-put-span : tie.Need-mul-put-span Inv-loop μ-loop
-mul-put-span c = let l = c .before .before .loop .inv in search needs
+mul-put-span c = let l = c .before .before .before .loop .inv in search needs
 
--- src/lib.rt:203:18
-mul-put-span-2 : tie.Need-mul-put-span-2 Inv-loop μ-loop
-mul-put-span-2 c = let l = c .before .before .loop .inv in search needs
-
--- src/lib.rt:203:18
-sub-put-span : tie.Need-sub-put-span Inv-loop μ-loop
-sub-put-span c = let l = c .before .before .loop .inv in omega (arith, l .2, l .3)
-
--- src/lib.rt:203:18
-part-put-span-start : tie.Need-part-put-span-start Inv-loop μ-loop
-part-put-span-start c = search needs
-
--- src/lib.rt:203:18
-part-put-span-end : tie.Need-part-put-span-end Inv-loop μ-loop
-part-put-span-end c = search needs
-
--- src/lib.rt:203:9
 put-span-requires : tie.Need-put-span-requires Inv-loop μ-loop
-put-span-requires c κs = search needs
+put-span-requires c κs = let l = c .before .before .before .loop .inv in omega (arith, l .2, l .3, c .before .before .loop-test .taken)
 
--- src/lib.rt:204:9
-add-i : tie.Need-add-i Inv-loop μ-loop
-add-i c = search needs
-
--- src/lib.rt:201:5
-loop-less : tie.Need-loop-less Inv-loop μ-loop
-loop-less c = omega arith
-
--- src/lib.rt:201:5
 loop-again : tie.Need-loop-again Inv-loop μ-loop
 loop-again c =
     let s = c .before .before .before .before .before .before .before .before .before .before .before .before .args in
     let l = c .before .before .before .before .before .before .loop in
     let h = c .before .before .before .before .before .loop-test .taken in
     let v = c .before .before .before .before .next-span in
-    let w = words-turn (s .table .now) (l .inv .0) h (v .result) (v .ensures) (s .words .now) (l .words) (c .before .before .put-span .last .0) (3 * l .i) (l .inv .2) (l .inv .1) refl (c .before .before .put-span .ensures) in
+    let w = c .before .before .put-span .ensures ∙ words-turn (s .table .now) (l .inv .0) h (v .result) (v .ensures) (s .words .now) (l .words) (l .inv .2) (l .inv .1) in
     (fill-step (s .table .now) (l .inv .0) h (v .result) (v .ensures), w, l .inv .2, ap length w ∙ length-laid (take (l .i + 1) (allSpans (s .table .now))) (s .words .now))
 
--- src/lib.rt:194:1
-same-length : tie.Need-same-length Inv-loop μ-loop
-same-length c = search needs
-
--- src/lib.rt:194:1
 returns : tie.Need-returns Inv-loop μ-loop
 returns c =
     let s = c .before .before .before .before .before .before .before .args in
@@ -103,19 +57,15 @@ write-spans-spec =
     (tie.spec
     Inv-loop
     μ-loop
-    check-spans-requires
-    written-in-requires
-    begin-requires
+    (λ c κs. search needs)
+    (λ c κs. search needs)
+    (λ c κs. search needs)
     loop-holds
     next-span-requires
     mul-put-span
-    mul-put-span-2
-    sub-put-span
-    part-put-span-start
-    part-put-span-end
     put-span-requires
-    add-i
-    loop-less
+    (λ c. search needs)
+    (λ c. omega arith)
     loop-again
-    same-length
+    (λ c. search needs)
     returns)
