@@ -23,11 +23,8 @@ add-result c = record { fits = omega (arith, small c .2) }
 add-result-2 : tie.Need-add-result-2
 add-result-2 c = record { fits = omega (arith, small c .1, small c .2) }
 
-cast-result : tie.Need-cast-result
-cast-result c = record { fits = omega (arith, small c .1, small c .2) }
-
 pub value-spec : {M : Type 1} → statement M
 value-spec =
     tie.close
     (tie.spec
-    (λ c. search needs) mul-bend mul-bend-2 (λ c. search needs) mul-result-2 add-result add-result-2 cast-result (λ c. search needs))
+    (λ c. search needs) mul-bend mul-bend-2 (λ c. search needs) mul-result-2 add-result add-result-2 (λ c. search needs))
