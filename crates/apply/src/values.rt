@@ -118,8 +118,14 @@ pub fn some_part(a: u32, b: u32) -> MaybePart
 pub fn some_name(w1: u32, w2: u32, w3: u32, w4: u32) -> MaybeName
     ensures { λ n. ⌜ n .is ≡ nameBy w1 w2 w3 w4 ⌝ }
 {
-    let letters = Part { offset: w1, size: w2 };
-    let parameter = Part { offset: w3, size: w4 };
+    let letters = Part {
+        offset: w1,
+        size: w2,
+    };
+    let parameter = Part {
+        offset: w3,
+        size: w4,
+    };
     let is = OptName::Some(Name { letters, parameter });
     MaybeName { is }
 }

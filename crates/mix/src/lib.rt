@@ -10,16 +10,16 @@ use state::Colors;
 use state::Font;
 use state::Line;
 use state::MaybeF32;
-use state::OptF32;
 use state::MaybeI32;
-use state::OptI32;
 use state::MaybePair;
-use state::OptPair;
 use state::MaybeRect;
-use state::OptRect;
 use state::MaybeRgb;
-use state::OptRgb;
 use state::MaybeU8;
+use state::OptF32;
+use state::OptI32;
+use state::OptPair;
+use state::OptRect;
+use state::OptRgb;
 use state::OptU8;
 use state::Pair;
 use state::Places;
@@ -385,9 +385,13 @@ pub fn mix_sizes(a: Sizes, b: Sizes, k: f32) -> Sizes
     let font_size_is = mix_opt_f32(a_size, b_size, k);
     let font_size = MaybeF32 { is: font_size_is };
     let letter_spacing_is = mix_opt_f32(a_spacing, b_spacing, k);
-    let letter_spacing = MaybeF32 { is: letter_spacing_is };
+    let letter_spacing = MaybeF32 {
+        is: letter_spacing_is,
+    };
     let drawing_baseline_offset_is = mix_opt_i32(a_offset, b_offset, k);
-    let drawing_baseline_offset = MaybeI32 { is: drawing_baseline_offset_is };
+    let drawing_baseline_offset = MaybeI32 {
+        is: drawing_baseline_offset_is,
+    };
     Sizes {
         font_size,
         letter_spacing,
@@ -415,13 +419,21 @@ pub fn mix_colors(a: Colors, b: Colors, k: f32) -> Colors
     let b4_is = b.shadow_color;
     let b4 = b4_is.is;
     let primary_color_is = mix_opt_rgb(a1, b1, k);
-    let primary_color = MaybeRgb { is: primary_color_is };
+    let primary_color = MaybeRgb {
+        is: primary_color_is,
+    };
     let secondary_color_is = mix_opt_rgb(a2, b2, k);
-    let secondary_color = MaybeRgb { is: secondary_color_is };
+    let secondary_color = MaybeRgb {
+        is: secondary_color_is,
+    };
     let outline_color_is = mix_opt_rgb(a3, b3, k);
-    let outline_color = MaybeRgb { is: outline_color_is };
+    let outline_color = MaybeRgb {
+        is: outline_color_is,
+    };
     let shadow_color_is = mix_opt_rgb(a4, b4, k);
-    let shadow_color = MaybeRgb { is: shadow_color_is };
+    let shadow_color = MaybeRgb {
+        is: shadow_color_is,
+    };
     Colors {
         primary_color,
         secondary_color,
@@ -450,13 +462,21 @@ pub fn mix_alphas(a: Alphas, b: Alphas, k: f32) -> Alphas
     let b4_is = b.shadow_alpha;
     let b4 = b4_is.is;
     let primary_alpha_is = mix_opt_u8(a1, b1, k);
-    let primary_alpha = MaybeU8 { is: primary_alpha_is };
+    let primary_alpha = MaybeU8 {
+        is: primary_alpha_is,
+    };
     let secondary_alpha_is = mix_opt_u8(a2, b2, k);
-    let secondary_alpha = MaybeU8 { is: secondary_alpha_is };
+    let secondary_alpha = MaybeU8 {
+        is: secondary_alpha_is,
+    };
     let outline_alpha_is = mix_opt_u8(a3, b3, k);
-    let outline_alpha = MaybeU8 { is: outline_alpha_is };
+    let outline_alpha = MaybeU8 {
+        is: outline_alpha_is,
+    };
     let shadow_alpha_is = mix_opt_u8(a4, b4, k);
-    let shadow_alpha = MaybeU8 { is: shadow_alpha_is };
+    let shadow_alpha = MaybeU8 {
+        is: shadow_alpha_is,
+    };
     Alphas {
         primary_alpha,
         secondary_alpha,

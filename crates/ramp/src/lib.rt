@@ -17,10 +17,15 @@ fn distance(lo: i32, hi: i32) -> u32
     ((hi as i64) - (lo as i64)) as u32
 }
 
-// A quotient of milliseconds: both are rounded before they are divided.
+// A quotient of milliseconds: both are rounded before they are divided. Below 2^24, some four and a half hours, each is a float as it stands.
 pub fn quotient(a: u32, b: u32) -> f32
     ensures { λ r. ⌜ r ≡ quotientOf (pos a) (pos b) ⌝ }
 {
+    if a < 16777216 {
+        if b < 16777216 {
+            return a as f32 / b as f32;
+        }
+    }
     float::nearest_u32(a) / float::nearest_u32(b)
 }
 

@@ -234,14 +234,14 @@ sub-t-stands-2 : (t : ℕ) → apply-tags-lts.Need-sub-t-stands-2 (calls-tags t)
 sub-t-stands-2 t c = omega (arith, c .before .before .before .loop-test .taken)
 
 apply-t-requires : (t : ℕ) → apply-tags-lts.Need-apply-t-requires (calls-tags t) (apply-tags-at t) apply-tags.Post Inv-loop μ-loop
-apply-t-requires t c κs = 
+apply-t-requires t c κs =
     let l = c .before .before .before .before .before .before .before .before .before .before .loop .inv in
     let s = c .before .before .before .before .before .before .before .before .before .before .before .before in
     let m = t-room (c .before .before .before .before .before .before .before .before .before .before .loop .inv .checking) (c .before .before .before .before .before .before .before .before .before .loop-test .taken) (c .before .before .before .before .before .before .before .before .record-at .ensures) (c .before .before .before .before .before .before .before .match .keys49) (c .before .before .before .before .before .t-stands .ensures) (not-false _ (c .before .before .before .before .if49 .left)) in
     (omega (arith, m .1, l .checking .tags .less, c .before .before .before .before .before .before .before .before .before .loop-test .taken, s .pre .0), (m .0, omega (arith, m .1, c .before .before .before .before .before .before .before .before .before .loop-test .taken, s .pre .1 .0), l .none))
 
 add-at : (t : ℕ) → apply-tags-lts.Need-add-at (calls-tags t) (apply-tags-at t) apply-tags.Post Inv-loop μ-loop
-add-at t c = 
+add-at t c =
     let m = t-room (c .before .before .before .before .before .before .before .before .before .before .before .before .before .before .loop .inv .checking) (c .before .before .before .before .before .before .before .before .before .before .before .before .before .loop-test .taken) (c .before .before .before .before .before .before .before .before .before .before .before .before .record-at .ensures) (c .before .before .before .before .before .before .before .before .before .before .before .match .keys49) (c .before .before .before .before .before .before .before .before .before .t-stands .ensures) (not-false _ (c .before .before .before .before .before .before .before .before .if49 .left)) in
     omega (arith, m .1, c .before .before .before .before .before .before .before .before .before .before .before .before .before .loop-test .taken, c .before .before .before .before .before .before .before .before .before .before .before .before .before .before .before .before .pre .1 .0, c .before .before .before .before .before .before .before .before .before .before .before .before .before .before .before .before .good .0)
 
@@ -319,7 +319,7 @@ loop-again t c = turn t c .on
 -- ---- where it ends
 
 returns : (t : ℕ) → apply-tags-lts.Need-returns (calls-tags t) (apply-tags-at t) apply-tags.Post Inv-loop μ-loop
-returns t c = 
+returns t c =
     let l = c .before .before .before .before .before .before .before .before .before .before .before .before .before .loop .inv in
     let e = c .before .before .apply-t .ensures in
     refused-is (c .if51 .taken) (inner-refused (l .checking) (c .before .before .before .before .before .before .before .before .before .before .before .before .loop-test .taken) (c .before .before .before .before .before .before .before .before .before .before .before .record-at .ensures) (c .before .before .before .before .before .before .before .before .before .before .match .keys49) (c .before .before .before .before .before .before .before .before .t-stands .ensures) (not-false _ (c .before .before .before .before .before .before .before .if49 .left)) _ (e .ground) (c .if51 .taken)) (e .words ∙ l .same)
@@ -404,13 +404,13 @@ put-from-70-requires : (t : ℕ) → apply-tags-lts.Need-put-from-70-requires (c
 put-from-70-requires t c κs = c .before .put-from-44 .ensures .clear
 
 returns-3 : (t : ℕ) → apply-tags-lts.Need-returns-3 (calls-tags t) (apply-tags-at t) apply-tags.Post Inv-loop μ-loop
-returns-3 t c = 
+returns-3 t c =
     let s = c .before .before .before .before .before .before .before .before .before .before .before .before .before .before .before in
     applied-is (toZ-ofZ w32 (s .args .t) (s .fits .t)) (toZ-ofZ w32 (s .args .dur) (s .fits .dur)) (c .before .before .before .before .before .before .before .before .before .before .before .before .before .loop .inv) (c .before .before .before .before .before .before .before .before .before .before .before .if52 .left)
     (rw (c .before .before .before .before .before .before .before .before .before .before .if53 .taken) (whole _ _ _ _ _ _ (c .before .before .before .before .before .before .before .before .clear .ensures .wide) (c .before .before .before .before .before .before .put-from-0 .ensures .is) (c .before .before .before .before .put-from-18 .ensures .is) (c .before .before .put-from-44 .ensures .is) (c .put-from-70 .ensures .is)))
 
 returns-4 : (t : ℕ) → apply-tags-lts.Need-returns-4 (calls-tags t) (apply-tags-at t) apply-tags.Post Inv-loop μ-loop
-returns-4 t c = 
+returns-4 t c =
     let s = c .before .before .before .before .before in
     applied-is (toZ-ofZ w32 (s .args .t) (s .fits .t)) (toZ-ofZ w32 (s .args .dur) (s .fits .dur)) (c .before .before .before .loop .inv) (c .before .if52 .left) (rw (c .if53 .left) refl)
 
