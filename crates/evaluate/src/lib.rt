@@ -507,12 +507,13 @@ pub fn evaluate_at(table: &[u32], t: i32, dur: i32) -> Evaluated
     let mut fault: usize = 0;
     let mut unwritten = [0; 92];
     let end = scan::least(table.len() / 8, 1024);
-    let st = apply_tags(
+    let mut st = state::identity();
+    st = apply_tags(
         table,
         0,
         end,
         8,
-        state::identity(),
+        st,
         t,
         dur,
         false,
@@ -529,19 +530,20 @@ pub fn evaluate_at(table: &[u32], t: i32, dur: i32) -> Evaluated
 }
 
 // The same as a ground and the 92 words of the C interface. What is left of the grounds is looked for first, so that the words are written
-// where nothing stands against them.
+// where nothing stands against them. The state comes back to where it was given from: a second one would take its room on the stack.
 pub fn write_at(table: &[u32], t: i32, dur: i32, state: &mut [u32; 92]) -> Checked
     ensures { λ c. ⌜ InWords (now (table .entry)) t dur (now (state .entry)) c (now (state .exit)) ⌝ }
 {
     let late = table::after_records(table, t, dur);
     let mut fault: usize = 0;
     let end = scan::least(table.len() / 8, 1024);
-    apply_tags(
+    let mut st = state::identity();
+    st = apply_tags(
         table,
         0,
         end,
         8,
-        state::identity(),
+        st,
         t,
         dur,
         good(late),
