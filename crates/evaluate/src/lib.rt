@@ -77,360 +77,405 @@ fn apply_tags(
         let kind = r.kind;
         match kind {
             1 => {
-                if !table::numbers_fit(r, 2147483647, 2147483647) {
+                if table::numbers_fit(r, 2147483647, 2147483647) {
+                    let m = fad_alpha(r.w1, r.w2, t, dur);
+                    let v = post.always.alpha_mul * m;
+                    post.always.alpha_mul = v;
+                } else {
                     break;
                 }
-                let m = fad_alpha(r.w1, r.w2, t, dur);
-                let v = post.always.alpha_mul * m;
-                post.always.alpha_mul = v;
             }
             2 => {
-                if !table::fade_fits(r) {
+                if table::fade_fits(r) {
+                    let m = apply::fade_by(r.w1, r.w2, r.w3, r.w4, r.w5, r.w6, r.w7, t);
+                    let v = post.always.alpha_mul * m;
+                    post.always.alpha_mul = v;
+                } else {
                     break;
                 }
-                let m = apply::fade_by(r.w1, r.w2, r.w3, r.w4, r.w5, r.w6, r.w7, t);
-                let v = post.always.alpha_mul * m;
-                post.always.alpha_mul = v;
             }
             3 => {
-                if !table::pair_fits(r) {
+                if table::pair_fits(r) {
+                    let mut s = post.places;
+                    s.translate = some_pair(r.w1, r.w2);
+                    post.places = s;
+                } else {
                     break;
                 }
-                let mut s = post.places;
-                s.translate = some_pair(r.w1, r.w2);
-                post.places = s;
             }
             4 => {
-                if !table::move_fits(r) {
+                if table::move_fits(r) {
+                    let k = ramp::progress(r.w5, r.w6, r.w7, t, dur);
+                    let mut s = post.places;
+                    s.translate = apply::moved(r.w1, r.w2, r.w3, r.w4, k);
+                    post.places = s;
+                } else {
                     break;
                 }
-                let k = ramp::progress(r.w5, r.w6, r.w7, t, dur);
-                let mut s = post.places;
-                s.translate = apply::moved(r.w1, r.w2, r.w3, r.w4, k);
-                post.places = s;
             }
             5 => {
-                if !table::float_fits(r) {
+                if table::float_fits(r) {
+                    let v = apply::radians(r.w1);
+                    post.always.rotate_radians = v;
+                } else {
                     break;
                 }
-                let v = apply::radians(r.w1);
-                post.always.rotate_radians = v;
             }
             6 => {
-                if !table::float_fits(r) {
+                if table::float_fits(r) {
+                    let v = apply::above_zero(r.w1);
+                    post.always.blur_sigma = v;
+                } else {
                     break;
                 }
-                let v = apply::above_zero(r.w1);
-                post.always.blur_sigma = v;
             }
             7 => {
-                if !table::float_fits(r) {
+                if table::float_fits(r) {
+                    let v = apply::hundredth(r.w1);
+                    post.always.scale.x = v;
+                } else {
                     break;
                 }
-                let v = apply::hundredth(r.w1);
-                post.always.scale.x = v;
             }
             8 => {
-                if !table::float_fits(r) {
+                if table::float_fits(r) {
+                    let v = apply::hundredth(r.w1);
+                    post.always.scale.y = v;
+                } else {
                     break;
                 }
-                let v = apply::hundredth(r.w1);
-                post.always.scale.y = v;
             }
             9 => {
-                if !table::colour_fits(r) {
+                if table::colour_fits(r) {
+                    let mut s = post.colors;
+                    s.primary_color = some_rgb(r.w1, r.w2, r.w3);
+                    post.colors = s;
+                } else {
                     break;
                 }
-                let mut s = post.colors;
-                s.primary_color = some_rgb(r.w1, r.w2, r.w3);
-                post.colors = s;
             }
             10 => {
-                if !table::float_fits(r) {
+                if table::float_fits(r) {
+                    let mut s = post.sizes;
+                    s.font_size = some_f32(r.w1);
+                    post.sizes = s;
+                } else {
                     break;
                 }
-                let mut s = post.sizes;
-                s.font_size = some_f32(r.w1);
-                post.sizes = s;
             }
             11 => {
-                if !table::rect_fits(r) {
+                if table::rect_fits(r) {
+                    let mut s = post.clips;
+                    s.clip_rect = some_rect(r.w1, r.w2, r.w3, r.w4);
+                    post.clips = s;
+                } else {
                     break;
                 }
-                let mut s = post.clips;
-                s.clip_rect = some_rect(r.w1, r.w2, r.w3, r.w4);
-                post.clips = s;
             }
             12 => {
-                if !table::drawing_fits(r) {
+                if table::drawing_fits(r) {
+                    let mut s = post.line;
+                    s.clip_drawing = some_part(r.w1, r.w2);
+                    post.line = s;
+                } else {
                     break;
                 }
-                let mut s = post.line;
-                s.clip_drawing = some_part(r.w1, r.w2);
-                post.line = s;
             }
             13 => {
-                if !table::float_fits(r) {
+                if table::float_fits(r) {
+                    let v = apply::radians(r.w1);
+                    post.always.rotate_x_radians = v;
+                } else {
                     break;
                 }
-                let v = apply::radians(r.w1);
-                post.always.rotate_x_radians = v;
             }
             14 => {
-                if !table::float_fits(r) {
+                if table::float_fits(r) {
+                    let v = apply::radians(r.w1);
+                    post.always.rotate_y_radians = v;
+                } else {
                     break;
                 }
-                let v = apply::radians(r.w1);
-                post.always.rotate_y_radians = v;
             }
             15 => {
-                if !table::pair_fits(r) {
+                if table::pair_fits(r) {
+                    let mut s = post.line;
+                    s.pivot = some_pair(r.w1, r.w2);
+                    post.line = s;
+                } else {
                     break;
                 }
-                let mut s = post.line;
-                s.pivot = some_pair(r.w1, r.w2);
-                post.line = s;
             }
             16 => {
-                if !table::float_fits(r) {
+                if table::float_fits(r) {
+                    let mut s = post.places;
+                    s.border = both(apply::above_zero(r.w1));
+                    post.places = s;
+                } else {
                     break;
                 }
-                let mut s = post.places;
-                s.border = both(apply::above_zero(r.w1));
-                post.places = s;
             }
             17 => {
-                if !table::float_fits(r) {
+                if table::float_fits(r) {
+                    let mut s = post.places;
+                    let now = s.border;
+                    let old = now.is;
+                    s.border = with_x(old, apply::above_zero(r.w1));
+                    post.places = s;
+                } else {
                     break;
                 }
-                let mut s = post.places;
-                let now = s.border;
-                let old = now.is;
-                s.border = with_x(old, apply::above_zero(r.w1));
-                post.places = s;
             }
             18 => {
-                if !table::float_fits(r) {
+                if table::float_fits(r) {
+                    let mut s = post.places;
+                    let now = s.border;
+                    let old = now.is;
+                    s.border = with_y(old, apply::above_zero(r.w1));
+                    post.places = s;
+                } else {
                     break;
                 }
-                let mut s = post.places;
-                let now = s.border;
-                let old = now.is;
-                s.border = with_y(old, apply::above_zero(r.w1));
-                post.places = s;
             }
             19 => {
-                if !table::float_fits(r) {
+                if table::float_fits(r) {
+                    let mut s = post.places;
+                    s.shadow = both(apply::above_zero(r.w1));
+                    post.places = s;
+                } else {
                     break;
                 }
-                let mut s = post.places;
-                s.shadow = both(apply::above_zero(r.w1));
-                post.places = s;
             }
             20 => {
-                if !table::float_fits(r) {
+                if table::float_fits(r) {
+                    let mut s = post.places;
+                    let now = s.shadow;
+                    let old = now.is;
+                    s.shadow = with_x(old, float::f32_of_word(r.w1));
+                    post.places = s;
+                } else {
                     break;
                 }
-                let mut s = post.places;
-                let now = s.shadow;
-                let old = now.is;
-                s.shadow = with_x(old, float::f32_of_word(r.w1));
-                post.places = s;
             }
             21 => {
-                if !table::float_fits(r) {
+                if table::float_fits(r) {
+                    let mut s = post.places;
+                    let now = s.shadow;
+                    let old = now.is;
+                    s.shadow = with_y(old, float::f32_of_word(r.w1));
+                    post.places = s;
+                } else {
                     break;
                 }
-                let mut s = post.places;
-                let now = s.shadow;
-                let old = now.is;
-                s.shadow = with_y(old, float::f32_of_word(r.w1));
-                post.places = s;
             }
             22 => {
-                if !table::number_fits(r, 0, 255) {
+                if table::number_fits(r, 0, 255) {
+                    let v = byte(r.w1);
+                    post.always.be_strength = v;
+                } else {
                     break;
                 }
-                let v = byte(r.w1);
-                post.always.be_strength = v;
             }
             23 => {
-                if !table::float_fits(r) {
+                if table::float_fits(r) {
+                    let v = float::f32_of_word(r.w1);
+                    post.always.shear.x = v;
+                } else {
                     break;
                 }
-                let v = float::f32_of_word(r.w1);
-                post.always.shear.x = v;
             }
             24 => {
-                if !table::float_fits(r) {
+                if table::float_fits(r) {
+                    let v = float::f32_of_word(r.w1);
+                    post.always.shear.y = v;
+                } else {
                     break;
                 }
-                let v = float::f32_of_word(r.w1);
-                post.always.shear.y = v;
             }
             25 => {
-                if !table::rect_fits(r) {
+                if table::rect_fits(r) {
+                    let mut s = post.clips;
+                    s.iclip_rect = some_rect(r.w1, r.w2, r.w3, r.w4);
+                    post.clips = s;
+                } else {
                     break;
                 }
-                let mut s = post.clips;
-                s.iclip_rect = some_rect(r.w1, r.w2, r.w3, r.w4);
-                post.clips = s;
             }
             26 => {
-                if !table::drawing_fits(r) {
+                if table::drawing_fits(r) {
+                    let mut s = post.line;
+                    s.iclip_drawing = some_part(r.w1, r.w2);
+                    post.line = s;
+                } else {
                     break;
                 }
-                let mut s = post.line;
-                s.iclip_drawing = some_part(r.w1, r.w2);
-                post.line = s;
             }
             27 => {
-                if !table::colour_fits(r) {
+                if table::colour_fits(r) {
+                    let mut s = post.colors;
+                    s.secondary_color = some_rgb(r.w1, r.w2, r.w3);
+                    post.colors = s;
+                } else {
                     break;
                 }
-                let mut s = post.colors;
-                s.secondary_color = some_rgb(r.w1, r.w2, r.w3);
-                post.colors = s;
             }
             28 => {
-                if !table::colour_fits(r) {
+                if table::colour_fits(r) {
+                    let mut s = post.colors;
+                    s.outline_color = some_rgb(r.w1, r.w2, r.w3);
+                    post.colors = s;
+                } else {
                     break;
                 }
-                let mut s = post.colors;
-                s.outline_color = some_rgb(r.w1, r.w2, r.w3);
-                post.colors = s;
             }
             29 => {
-                if !table::colour_fits(r) {
+                if table::colour_fits(r) {
+                    let mut s = post.colors;
+                    s.shadow_color = some_rgb(r.w1, r.w2, r.w3);
+                    post.colors = s;
+                } else {
                     break;
                 }
-                let mut s = post.colors;
-                s.shadow_color = some_rgb(r.w1, r.w2, r.w3);
-                post.colors = s;
             }
             30 => {
-                if !table::number_fits(r, 0, 255) {
+                if table::number_fits(r, 0, 255) {
+                    post.alphas = apply::all_alphas(r.w1);
+                } else {
                     break;
                 }
-                post.alphas = apply::all_alphas(r.w1);
             }
             31 => {
-                if !table::number_fits(r, 0, 255) {
+                if table::number_fits(r, 0, 255) {
+                    let mut s = post.alphas;
+                    s.primary_alpha = some_u8(r.w1);
+                    post.alphas = s;
+                } else {
                     break;
                 }
-                let mut s = post.alphas;
-                s.primary_alpha = some_u8(r.w1);
-                post.alphas = s;
             }
             32 => {
-                if !table::number_fits(r, 0, 255) {
+                if table::number_fits(r, 0, 255) {
+                    let mut s = post.alphas;
+                    s.secondary_alpha = some_u8(r.w1);
+                    post.alphas = s;
+                } else {
                     break;
                 }
-                let mut s = post.alphas;
-                s.secondary_alpha = some_u8(r.w1);
-                post.alphas = s;
             }
             33 => {
-                if !table::number_fits(r, 0, 255) {
+                if table::number_fits(r, 0, 255) {
+                    let mut s = post.alphas;
+                    s.outline_alpha = some_u8(r.w1);
+                    post.alphas = s;
+                } else {
                     break;
                 }
-                let mut s = post.alphas;
-                s.outline_alpha = some_u8(r.w1);
-                post.alphas = s;
             }
             34 => {
-                if !table::number_fits(r, 0, 255) {
+                if table::number_fits(r, 0, 255) {
+                    let mut s = post.alphas;
+                    s.shadow_alpha = some_u8(r.w1);
+                    post.alphas = s;
+                } else {
                     break;
                 }
-                let mut s = post.alphas;
-                s.shadow_alpha = some_u8(r.w1);
-                post.alphas = s;
             }
             35 => {
-                if !table::float_fits(r) {
+                if table::float_fits(r) {
+                    let mut s = post.sizes;
+                    s.letter_spacing = some_f32(r.w1);
+                    post.sizes = s;
+                } else {
                     break;
                 }
-                let mut s = post.sizes;
-                s.letter_spacing = some_f32(r.w1);
-                post.sizes = s;
             }
             36 => {
-                if !table::number_fits(r, 0, 3) {
+                if table::number_fits(r, 0, 3) {
+                    let s = post.line;
+                    post.line = apply::wrapped(s, r.w1);
+                } else {
                     break;
                 }
-                let s = post.line;
-                post.line = apply::wrapped(s, r.w1);
             }
             37 => {
-                if !table::number_fits(r, 1, 9) {
+                if table::number_fits(r, 1, 9) {
+                    let s = post.line;
+                    post.line = apply::aligned(s, r.w1);
+                } else {
                     break;
                 }
-                let s = post.line;
-                post.line = apply::aligned(s, r.w1);
             }
             38 => {
-                if !table::number_fits(r, 0, 255) {
+                if table::number_fits(r, 0, 255) {
+                    let s = post.line;
+                    post.line = apply::aligned(s, numpad(r.w1));
+                } else {
                     break;
                 }
-                let s = post.line;
-                post.line = apply::aligned(s, numpad(r.w1));
             }
             39 => {
-                if !table::font_fits(r) {
+                if table::font_fits(r) {
+                    let mut s = post.font;
+                    s.font_name = some_name(r.w1, r.w2, r.w3, r.w4);
+                    post.font = s;
+                } else {
                     break;
                 }
-                let mut s = post.font;
-                s.font_name = some_name(r.w1, r.w2, r.w3, r.w4);
-                post.font = s;
             }
             40 => {
-                if !table::number_fits(r, 0, 255) {
+                if table::number_fits(r, 0, 255) {
+                    let mut s = post.font;
+                    s.font_encoding = some_u8(r.w1);
+                    post.font = s;
+                } else {
                     break;
                 }
-                let mut s = post.font;
-                s.font_encoding = some_u8(r.w1);
-                post.font = s;
             }
             41 => {
-                if !table::reset_fits(r) {
+                if table::reset_fits(r) {
+                    post = state::identity();
+                    let mut s = post.line;
+                    s.reset_to_style = some_reset(r.w1, r.w2, r.w3);
+                    post.line = s;
+                } else {
                     break;
                 }
-                post = state::identity();
-                let mut s = post.line;
-                s.reset_to_style = some_reset(r.w1, r.w2, r.w3);
-                post.line = s;
             }
             42 => {
-                if !table::weight_fits(r) {
+                if table::weight_fits(r) {
+                    let mut s = post.font;
+                    s.bold_weight = some_u16(r.w1);
+                    post.font = s;
+                } else {
                     break;
                 }
-                let mut s = post.font;
-                s.bold_weight = some_u16(r.w1);
-                post.font = s;
             }
             43 => {
-                if !table::number_fits(r, 0, 1) {
+                if table::number_fits(r, 0, 1) {
+                    let mut s = post.font;
+                    s.italic = some_bool(r.w1);
+                    post.font = s;
+                } else {
                     break;
                 }
-                let mut s = post.font;
-                s.italic = some_bool(r.w1);
-                post.font = s;
             }
             44 => {
-                if !table::number_fits(r, 0, 1) {
+                if table::number_fits(r, 0, 1) {
+                    let mut s = post.font;
+                    s.underline = some_bool(r.w1);
+                    post.font = s;
+                } else {
                     break;
                 }
-                let mut s = post.font;
-                s.underline = some_bool(r.w1);
-                post.font = s;
             }
             45 => {
-                if !table::number_fits(r, 0, 1) {
+                if table::number_fits(r, 0, 1) {
+                    let mut s = post.font;
+                    s.strikeout = some_bool(r.w1);
+                    post.font = s;
+                } else {
                     break;
                 }
-                let mut s = post.font;
-                s.strikeout = some_bool(r.w1);
-                post.font = s;
             }
             46 => {
                 if !table::numbers_fit(r, 2, 1000000000) {
@@ -438,20 +483,22 @@ fn apply_tags(
                 }
             }
             47 => {
-                if !table::shift_fits(r) {
+                if table::shift_fits(r) {
+                    let mut s = post.sizes;
+                    s.drawing_baseline_offset = some_i32(r.w1);
+                    post.sizes = s;
+                } else {
                     break;
                 }
-                let mut s = post.sizes;
-                s.drawing_baseline_offset = some_i32(r.w1);
-                post.sizes = s;
             }
             48 => {
-                if !table::number_fits(r, 0, 255) {
+                if table::number_fits(r, 0, 255) {
+                    let mut s = post.line;
+                    s.drawing_scale = some_u8(r.w1);
+                    post.line = s;
+                } else {
                     break;
                 }
-                let mut s = post.line;
-                s.drawing_scale = some_u8(r.w1);
-                post.line = s;
             }
             49 => {
                 let n = r.w5 as usize;
@@ -538,18 +585,7 @@ pub fn write_at(table: &[u32], t: i32, dur: i32, state: &mut [u32; 92]) -> Check
     let mut fault: usize = 0;
     let end = scan::least(table.len() / 8, 1024);
     let mut st = state::identity();
-    st = apply_tags(
-        table,
-        0,
-        end,
-        8,
-        st,
-        t,
-        dur,
-        good(late),
-        &mut fault,
-        state,
-    );
+    st = apply_tags(table, 0, end, 8, st, t, dur, good(late), &mut fault, state);
     if fault > 0 {
         return Checked::Bad(Refusal::TableMalformed(fault - 1));
     }

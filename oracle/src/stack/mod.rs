@@ -9,6 +9,11 @@ use painted::{Arguments, Painted};
 
 const KB: usize = 1_024;
 
+/// Evaluation without \t and eight \t deep, and the most bytes that each level of \t may add.
+const FLAT: &str = "evaluate_at, no \\t";
+const DEEP: &str = "evaluate_at, to eight \\t";
+const LEVEL: usize = 740;
+
 /// A call and the inputs that it is measured on.
 struct Row {
     name: &'static str,
@@ -53,13 +58,8 @@ fn rows(inputs: &mut Inputs) -> Vec<Row> {
         row("parse_raw_block, to eight \\t", raw, &nested, 8 * KB),
         row("parse_drawing", drawing, &drawings, 4 * KB),
         row("split_clip_arg", clip, &clips, KB),
-        row("evaluate_at, no \\t", evaluate, &flat_lines, KB),
-        row(
-            "evaluate_at, to eight \\t",
-            evaluate,
-            &nested_lines,
-            12 * KB,
-        ),
+        row(FLAT, evaluate, &flat_lines, 1_072),
+        row(DEEP, evaluate, &nested_lines, 7 * KB),
         row("next_mark, no \\t", mark, &flat_lines, KB),
         row("next_mark, to eight \\t", mark, &nested_lines, 2 * KB),
         row("karaoke_spans, no \\t", karaoke, &flat_spans, KB),
@@ -93,6 +93,7 @@ pub fn run() -> bool {
     let mut inputs = Inputs::new();
     let mut stack = Painted::new();
     let mut kept = true;
+    let mut evaluation = [0; 2];
     println!("{:<30} {:>6} {:>6} {:>6}", "call", "inputs", "used", "most");
     for row in rows(&mut inputs) {
         let used = used(&row, &mut stack);
@@ -100,8 +101,16 @@ pub fn run() -> bool {
         let (name, count, most) = (row.name, row.inputs.len(), row.most);
         println!("{name:<30} {count:>6} {shown:>6} {most:>6}");
         kept &= used.is_none_or(|bytes| bytes <= most);
+        for (sum, of) in evaluation.iter_mut().zip([FLAT, DEEP]) {
+            *sum += used.filter(|_| name == of).unwrap_or(0);
+        }
     }
-    kept
+    let level = evaluation[1].saturating_sub(evaluation[0]).div_ceil(8);
+    println!(
+        "{:<30} {:>6} {level:>6} {LEVEL:>6}",
+        "evaluate_at, a level of \\t", ""
+    );
+    kept && level <= LEVEL
 }
 
 #[cfg(test)]
