@@ -25,7 +25,7 @@ impl Row {
     fn least(&self) -> f64 {
         match self.call {
             // Ours looks over the whole table for ground 5 first; the Rust has no such check.
-            Call::Spans => 0.4,
+            Call::Spans => 0.35,
             _ if self.name.starts_with("typical") => 1.3,
             _ => 1.0,
         }
@@ -427,7 +427,7 @@ mod tests {
         for row in rows() {
             let least = match row.name {
                 "typical short blocks" | "typical short blocks, raw call" => 1.3,
-                "spans of script lines" | "spans of a thousand beats" => 0.4,
+                "spans of script lines" | "spans of a thousand beats" => 0.35,
                 _ => 1.0,
             };
             assert_eq!(row.least(), least, "{}", row.name);

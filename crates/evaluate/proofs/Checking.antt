@@ -185,8 +185,8 @@ refused-is {v = v} {write = write} {r = r} {x = x} p g e = record { ground = g; 
     kept false (suc n) p = refl
 
 -- none is
-pub applied-is : {t dur t' dur' : ℤ} {ws : List ℕ} {d first count : ℕ} {st : RenderState} {end : ℕ} {v : List ℕ} {write : Bool} {r : RenderState} {x : ℕ} {u w : List ℕ} {b : ℕ} →
-    t ≡ t' → dur ≡ dur' → Running t dur ws d first count st end v x w b r → end ≤ b → u ≡ wordsIf write Good r w → Applied t' dur' ws first count d st write v r x u
-applied-is {write = write} {r = r} et ed l h e =
+pub applied-is : {t dur : ℤ} {ws : List ℕ} {d first count : ℕ} {st : RenderState} {end : ℕ} {v : List ℕ} {write : Bool} {r : RenderState} {x : ℕ} {u w : List ℕ} {b : ℕ} →
+    Running t dur ws d first count st end v x w b r → end ≤ b → u ≡ wordsIf write Good r w → Applied t dur ws first count d st write v r x u
+applied-is {write = write} {r = r} l h e =
     let c = l .checking in
-    rw (sym et, sym ed, l .none) (record { ground = ended c h; state = λ y. ended-state c h; words = e ∙ ap (λ (y : List ℕ). wordsIf write Good r y) (l .same) })
+    rw (l .none) (record { ground = ended c h; state = λ y. ended-state c h; words = e ∙ ap (λ (y : List ℕ). wordsIf write Good r y) (l .same) })

@@ -39,13 +39,13 @@ fn apply_t(
     n: usize,
     deep: usize,
     a: RenderState,
-    t: i32,
-    dur: i32,
+    t: &i32,
+    dur: &i32,
     fault: &mut usize,
     out: &mut [u32; 92],
 ) -> RenderState
     requires { ⌜ (0 < deep) × Inside (now table) (at + 1) n × (now fault ≡ 0) ⌝ }
-    ensures { λ r. ⌜ Applied t dur (now (table .entry)) (at + 1) n (deep - 1) a false (now (out .entry)) r (now (fault .exit)) (now (out .exit)) ⌝ }
+    ensures { λ r. ⌜ Applied (now (t .entry)) (now (dur .entry)) (now (table .entry)) (at + 1) n (deep - 1) a false (now (out .entry)) r (now (fault .exit)) (now (out .exit)) ⌝ }
 {
     let words = table;
     apply_tags(words, at + 1, n, deep - 1, a, t, dur, false, fault, out)
@@ -60,14 +60,14 @@ fn apply_tags(
     count: usize,
     deep: usize,
     st: RenderState,
-    t: i32,
-    dur: i32,
+    t: &i32,
+    dur: &i32,
     write: bool,
     fault: &mut usize,
     out: &mut [u32; 92],
 ) -> RenderState
     requires { ⌜ Inside (now table) first count × (now fault ≡ 0) ⌝ }
-    ensures { λ r. ⌜ Applied t dur (now (table .entry)) first count deep st write (now (out .entry)) r (now (fault .exit)) (now (out .exit)) ⌝ }
+    ensures { λ r. ⌜ Applied (now (t .entry)) (now (dur .entry)) (now (table .entry)) first count deep st write (now (out .entry)) r (now (fault .exit)) (now (out .exit)) ⌝ }
 {
     let mut post = st;
     let mut at = first;
@@ -78,7 +78,7 @@ fn apply_tags(
         match kind {
             1 => {
                 if table::numbers_fit(r, 2147483647, 2147483647) {
-                    let m = fad_alpha(r.w1, r.w2, t, dur);
+                    let m = fad_alpha(r.w1, r.w2, *t, *dur);
                     let v = post.always.alpha_mul * m;
                     post.always.alpha_mul = v;
                 } else {
@@ -87,7 +87,7 @@ fn apply_tags(
             }
             2 => {
                 if table::fade_fits(r) {
-                    let m = apply::fade_by(r.w1, r.w2, r.w3, r.w4, r.w5, r.w6, r.w7, t);
+                    let m = apply::fade_by(r.w1, r.w2, r.w3, r.w4, r.w5, r.w6, r.w7, *t);
                     let v = post.always.alpha_mul * m;
                     post.always.alpha_mul = v;
                 } else {
@@ -105,7 +105,7 @@ fn apply_tags(
             }
             4 => {
                 if table::move_fits(r) {
-                    let k = ramp::progress(r.w5, r.w6, r.w7, t, dur);
+                    let k = ramp::progress(r.w5, r.w6, r.w7, *t, *dur);
                     let mut s = post.places;
                     s.translate = apply::moved(r.w1, r.w2, r.w3, r.w4, k);
                     post.places = s;
@@ -505,7 +505,7 @@ fn apply_tags(
                 if !table::t_stands(r, end - at - 1, deep) {
                     break;
                 }
-                let k = mix::factor(r.w1, r.w2, r.w3, r.w4, t, dur);
+                let k = mix::factor(r.w1, r.w2, r.w3, r.w4, *t, *dur);
                 if n == 0 {
                     post = mix::mix_state(post, post, k);
                 } else {
@@ -561,8 +561,8 @@ pub fn evaluate_at(table: &[u32], t: i32, dur: i32) -> Evaluated
         end,
         8,
         st,
-        t,
-        dur,
+        &t,
+        &dur,
         false,
         &mut fault,
         &mut unwritten,
@@ -585,7 +585,18 @@ pub fn write_at(table: &[u32], t: i32, dur: i32, state: &mut [u32; 92]) -> Check
     let mut fault: usize = 0;
     let end = scan::least(table.len() / 8, 1024);
     let mut st = state::identity();
-    st = apply_tags(table, 0, end, 8, st, t, dur, good(late), &mut fault, state);
+    st = apply_tags(
+        table,
+        0,
+        end,
+        8,
+        st,
+        &t,
+        &dur,
+        good(late),
+        &mut fault,
+        state,
+    );
     if fault > 0 {
         return Checked::Bad(Refusal::TableMalformed(fault - 1));
     }

@@ -113,12 +113,10 @@ module _ (x : Float) (m e j : ℕ) (h : HasValue x false (m * 2 ^ e) (2 ^ 149)) 
   scaled-left k same =
       sym (scaled ∙ ap (λ (y : ℕ). y / 2 ^ 149) (ap (λ (y : ℕ). m * y) (ap (λ (y : ℕ). 2 ^ y) same ∙ pow-add 2 k 149) ∙ sym (mul-assoc m (2 ^ k) (2 ^ 149))) ∙ mul-div-cancel (m * 2 ^ k) (pow-pos 149))
 
-  pub scaled-room : (k : ℕ) → e + j ≡ k + 149 → 2 ^ 23 ≤ m → num x * 2 ^ j < 2 ^ 32 * den x → k ≤ 8
-  scaled-room k same large small =
-      room k (pow-back (23 + k) 32
+  -- with at most n digits before the point
+  pub scaled-room : (n k : ℕ) → e + j ≡ k + 149 → 2 ^ 23 ≤ m → num x * 2 ^ j < 2 ^ n * den x → 23 + k < n
+  scaled-room n k same large small =
+      pow-back (23 + k) n
       (lt-of-le-of-lt (le-of-eq (pow-add 2 23 k))
       (lt-of-le-of-lt (mul-le-mul-right (2 ^ k) large)
-      (lt-of-le-of-lt (le-of-eq (scaled-left k same)) (div-lt-iff-lt-mul (den-pos x) .1 small)))))
-    where
-      room : (k : ℕ) → 23 + k < 32 → k ≤ 8
-      room k h = omega arith
+      (lt-of-le-of-lt (le-of-eq (scaled-left k same)) (div-lt-iff-lt-mul (den-pos x) .1 small))))

@@ -71,9 +71,15 @@ pub round-above : (x : Float) → T (lt +0 x) → pos (min ((halves x + 1) / 2) 
 unfolding scaledTo roundAway
 round-above = above-cases (λ (x : Float). pos (min ((halves x + 1) / 2) 2147483647) ≡ roundAway x) refl (λ (m : ℕ) (e : ℤ). ap pos (round-cap _ _ 2147483647 (round-of (fin false (suc m) e)) (omega arith)))
 
-pub cut-byte-above : (x : Float) → T (lt +0 x) → min (halves x / 2) 255 ≡ toUnsigned 8 x
+once : (n : ℕ) → n * 1 ≡ n
+once n = omega arith
+
+byte-cap : (a b : ℕ) → a ≡ b → min (min a 256) 255 ≡ min b 255
+byte-cap a b e = omega arith
+
+pub cut-byte-above : (x : Float) → T (lt +0 x) → min (scaledTo 0 256 x) 255 ≡ toUnsigned 8 x
 unfolding scaledTo toUnsigned
-cut-byte-above = above-cases (λ (x : Float). min (halves x / 2) 255 ≡ toUnsigned 8 x) refl (λ (m : ℕ) (e : ℤ). cut-cap _ _ 255 (whole-of (fin false (suc m) e)) (omega arith))
+cut-byte-above = above-cases (λ (x : Float). min (scaledTo 0 256 x) 255 ≡ toUnsigned 8 x) refl (λ (m : ℕ) (e : ℤ). byte-cap _ _ (ap (λ (n : ℕ). n / down e) (once (suc m * up e))))
 
 pub round-byte-above : (x : Float) → T (lt +0 x) → min ((halves x + 1) / 2) 255 ≡ roundByte x
 unfolding scaledTo roundByte

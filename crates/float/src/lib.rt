@@ -179,12 +179,26 @@ pub fn round_away(x: f32) -> i32
     }
 }
 
+// x cut down to a whole number, for at most 24 binary digits before the point: `scaled` without its way up, as \fade takes this one.
+fn whole(x: f32) -> u32
+    requires { ⌜ T (positive x) × (num x < 2 ^ 24 * den x) ⌝ }
+    ensures { λ r. ⌜ r ≡ num x / den x ⌝ }
+{
+    let b = f32::to_bits(x);
+    let e = b / 8388608;
+    if e < 127 {
+        0
+    } else {
+        (b % 8388608 + 8388608) >> (150 - e)
+    }
+}
+
 // x cut to a byte, as Rust's `as u8`.
 pub fn cut_byte(x: f32) -> u8
     ensures { λ r. ⌜ r ≡ Ieee.toUnsigned 8 x ⌝ }
 {
     if x > 0.0 {
-        least(halves(x) / 2, 255) as u8
+        if x < 256.0 { whole(x) as u8 } else { 255 }
     } else {
         0
     }

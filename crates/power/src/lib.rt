@@ -36,7 +36,7 @@ fn times_digit(p: f32, y: f32, v: u32, d: u32) -> f32
     if (v >> d) % 2 == 1 { p * y } else { p }
 }
 
-// p with v's d lowest binary digits, starting from the f32 whose digits are m. The second guess of a turn waits for no test of the first root.
+// p with v's d lowest binary digits, starting from the f32 whose digits are m, two roots a turn.
 fn near_one(m: u64, v: u32, d: u32, whole: f32) -> f32
     requires { ⌜ Digits m × (d ≤ 8) ⌝ }
     ensures { λ q. ⌜ q ≡ roots d v (part m) whole ⌝ }
@@ -45,13 +45,13 @@ fn near_one(m: u64, v: u32, d: u32, whole: f32) -> f32
     let mut r = m;
     let mut i = d;
     while v % (1 << i) > 0 {
-        let g = root::two_guesses(r);
+        let g = root::first_root(r);
         i -= 1;
-        r = root::root_digits(r, g.first);
+        r = g.digits;
         p = times_digit(p, root::of_digits(r), v, i);
         if v % (1 << i) > 0 {
             i -= 1;
-            r = root::root_digits(r, g.second);
+            r = root::root_digits(r, g.next);
             p = times_digit(p, root::of_digits(r), v, i);
         }
     }

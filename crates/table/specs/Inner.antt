@@ -4,14 +4,14 @@ use mathlib.Core.Bool.{Bool, true, false}
 use Prim.Native.Nat.{ℕ, _+_, _-_, _*_, _≤_}
 use lib.Dec.{leb, ltb, eqb}
 use lib.ListN.{length, getD, take, drop}
-use Rattle.scan.specs.Scan.{pick, both}
+use Rattle.scan.specs.Scan.{pick, both, within}
 use Rattle.refusal.specs.declared.Checked.{Checked}
 use Rattle.refusal.specs.declared.Checked.the-variants.{Bad}
 use Rattle.refusal.specs.declared.Refusal.the-variants.{TableMalformed}
 use Rattle.tag.specs.declared.Record.{Record}
 use Rattle.tag.specs.Tag.{mostDepth}
 use Rattle.tag.specs.Table.{width, rec}
-use Rattle.tag.specs.Range.{WordClass, unused, rowFits, partFits, inRange}
+use Rattle.tag.specs.Range.{WordClass, unused, rowFits, timeWord, timesFit, partFits, inRange}
 use Rattle.tag.specs.WellFormed.{recordsOf, tKind, holds, fault}
 
 -- the record with the index at, and n records from it on
@@ -36,6 +36,10 @@ oneFits a r = wordsFit a unused unused unused unused unused unused r
 
 abbrev pub twoFit : WordClass → WordClass → Record → Bool
 twoFit a b r = wordsFit a b unused unused unused unused unused r
+
+-- the flag of \move and \t and the two times that it says are there, or 0
+abbrev pub flagTimes : ℕ → ℕ → ℕ → Bool
+flagTimes f a b = both (both (within 0 1 f) (both (timeWord a) (timeWord b))) (timesFit f a b)
 
 -- \fn: both parts, and one of them not empty; \r: no name, or one that is not empty
 abbrev pub fontParts : Record → Bool

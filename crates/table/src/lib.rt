@@ -10,7 +10,7 @@ ghost use lib.ListN.{length};
 ghost use Rattle.scan.specs.Scan.{both, within as withinOf};
 ghost use Rattle.tag.specs.Range.{unused, float, range, time, weight, free, timeWord, partFits, timesFit, wordFits, inRange};
 ghost use Rattle.tag.specs.WellFormed.{first, fault as faultOf, excess as excessOf, tableGround};
-ghost use Rattle.table.specs.Inner.{recordIn, part, Inside, wordsFit, oneFits, twoFit, fontParts, stylePart, ofKind, stands as standsOf, tStands, faultOfT};
+ghost use Rattle.table.specs.Inner.{recordIn, part, Inside, wordsFit, oneFits, twoFit, flagTimes, fontParts, stylePart, ofKind, stands as standsOf, tStands, faultOfT};
 ghost use Rattle.table.specs.Ground.{inTime, timeGround, callGround};
 
 // The record with the index `at`.
@@ -52,14 +52,14 @@ fn is_float(w: u32) -> bool
     w % 2147483648 <= 1315859240
 }
 
-// Whether times are there or 0.
+// Whether a flag says that there are times and they are in range, or that there are none and they are 0.
 fn times_fit(flag: u32, t1: u32, t2: u32) -> bool
-    ensures { λ v. ⌜ v ≡ timesFit flag t1 t2 ⌝ }
+    ensures { λ v. ⌜ v ≡ flagTimes flag t1 t2 ⌝ }
 {
     if flag == 0 {
         return scan::both(t1 == 0, t2 == 0);
     }
-    true
+    scan::both(flag == 1, scan::both(is_time(t1), is_time(t2)))
 }
 
 // Whether a part of a text ends within 12,288 bytes; an empty one lies at 0.
@@ -162,12 +162,11 @@ pub fn fade_fits(r: Record) -> bool
 pub fn move_fits(r: Record) -> bool
     ensures { λ v. ⌜ v ≡ both (wordsFit float float float float (range 0 1) time time r) (timesFit (r .w5) (r .w6) (r .w7)) ⌝ }
 {
-    let times = scan::both(within(0, 1, r.w5), scan::both(is_time(r.w6), is_time(r.w7)));
-    let end = scan::both(is_float(r.w3), scan::both(is_float(r.w4), times));
-    scan::both(
-        scan::both(is_float(r.w1), scan::both(is_float(r.w2), end)),
-        times_fit(r.w5, r.w6, r.w7),
-    )
+    let end = scan::both(is_float(r.w3), is_float(r.w4));
+    if !scan::both(is_float(r.w1), scan::both(is_float(r.w2), end)) {
+        return false;
+    }
+    times_fit(r.w5, r.w6, r.w7)
 }
 
 pub fn drawing_fits(r: Record) -> bool
@@ -224,13 +223,7 @@ fn t_fits(r: Record) -> bool
     ensures { λ v. ⌜ v ≡ both (wordsFit (range 0 1) time time float free unused unused r) (timesFit (r .w1) (r .w2) (r .w3)) ⌝ }
 {
     let end = scan::both(is_float(r.w4), scan::both(r.w6 == 0, r.w7 == 0));
-    scan::both(
-        scan::both(
-            within(0, 1, r.w1),
-            scan::both(is_time(r.w2), scan::both(is_time(r.w3), end)),
-        ),
-        times_fit(r.w1, r.w2, r.w3),
-    )
+    scan::both(end, times_fit(r.w1, r.w2, r.w3))
 }
 
 // Whether a T is not at fault itself, with `left` records behind it and `deep` more levels of T allowed.

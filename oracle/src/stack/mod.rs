@@ -58,7 +58,7 @@ fn rows(inputs: &mut Inputs) -> Vec<Row> {
         row("parse_raw_block, to eight \\t", raw, &nested, 8 * KB),
         row("parse_drawing", drawing, &drawings, 4 * KB),
         row("split_clip_arg", clip, &clips, KB),
-        row(FLAT, evaluate, &flat_lines, 1_072),
+        row(FLAT, evaluate, &flat_lines, KB),
         row(DEEP, evaluate, &nested_lines, 7 * KB),
         row("next_mark, no \\t", mark, &flat_lines, KB),
         row("next_mark, to eight \\t", mark, &nested_lines, 2 * KB),

@@ -3,23 +3,28 @@ use mathlib.Core.Path.{_≡_, refl, sym, ap, _∙_}
 use mathlib.Core.Bool.{true, false}
 use mathlib.Core.Logic.{⊎-elim}
 use native.Mathlib.Omega.{arith}
-use borrow.Author.Needs.{needs}
+use borrow.Author.Needs.{needs, sfits-of}
 use borrow.Author.Tests.{not-true, not-false}
 use mir.Syntax.{w32}
-use mir.Val.{toZ, ofZ}
+use mir.Val.{toZ, ofZ, hbits}
 use mir.ValLaws.{toZ-ofZ}
+use lib.IntN.{ℤ}
+use lib.Signed.{mag}
 use Rattle.refusal.specs.declared.Checked.the-variants.{Good}
 use Rattle.tag.specs.Range.{inRange, rows}
 use Rattle.tag.specs.WellFormed.{fault}
-use Rattle.tag.specs.Decode.{decodeOne, decoders}
+use Rattle.tag.specs.Decode.{f, timesOf, decodeOne, decoders}
 use Rattle.state.specs.State.{withAlphas, withLine, identity}
-use Rattle.state.specs.Apply.{faded, applyOwn}
+use Rattle.state.specs.Mix.{factor}
+use Rattle.state.specs.Apply.{fadAlpha, faded, applyOwn}
+use Rattle.ramp.specs.Inner.{progressBy}
+use Rattle.apply.specs.Inner.{fadeMul}
 use Rattle.table.specs.Inner.{part}
 use Rattle.table.proofs.ByKind.{unjoined}
 use Rattle.words.proofs.Laws.{whole}
 use Rattle.evaluate.specs.Inner.{told}
 use Rattle.evaluate.proofs.Checking.{Checking, Running, Turned, start, one, kind-refused, none-refused, t-refused, t-room, inner-refused, none-inside, zero-told, within-end, turn-less, plain-turn, t-turn, refused-is, applied-is}
-use Prim.Native.Nat.{ℕ, _<_, _≤_, _+_, _-_, _*_}
+use Prim.Native.Nat.{ℕ, _<_, _≤_, _+_, _-_, _*_, _^_}
 use borrow.Fn.Kinds.{In}
 use borrow.Fn.PlainCycle.{Measures, is, falls, and}
 use Rattle.evaluate.proofs.apply_t.Reads as apply-t
@@ -81,25 +86,25 @@ use Rattle.words.proofs.put_from_70.Reads as put-from-70-reads
 use Rattle.evaluate.proofs.+apply_t+apply_tags.{statement}
 use Rattle.evaluate.proofs.+apply_t+apply_tags.Tie.{close}
 
-abbrev μ-apply-t : Measures 3 apply-t-kinds.ps ℕ
+abbrev μ-apply-t : Measures 5 apply-t-kinds.ps ℕ
 μ-apply-t κs a = 2 * a .1 .1 .0 + 1
 
-abbrev μ-apply-tags : Measures 3 apply-tags-kinds.ps ℕ
+abbrev μ-apply-tags : Measures 5 apply-tags-kinds.ps ℕ
 μ-apply-tags κs a = 2 * a .1 .1 .0
 
-abbrev apply-t-at : ℕ → In 3 apply-t-kinds.ps
-apply-t-at t = and 3 apply-t-kinds.ps (is 3 apply-t-kinds.ps μ-apply-t t) apply-t.Pre
+abbrev apply-t-at : ℕ → In 5 apply-t-kinds.ps
+apply-t-at t = and 5 apply-t-kinds.ps (is 5 apply-t-kinds.ps μ-apply-t t) apply-t.Pre
 
-abbrev apply-t-below : ℕ → In 3 apply-t-kinds.ps
-apply-t-below t = and 3 apply-t-kinds.ps (falls 3 apply-t-kinds.ps _<_ μ-apply-t t) apply-t.Pre
+abbrev apply-t-below : ℕ → In 5 apply-t-kinds.ps
+apply-t-below t = and 5 apply-t-kinds.ps (falls 5 apply-t-kinds.ps _<_ μ-apply-t t) apply-t.Pre
 
-abbrev apply-tags-at : ℕ → In 3 apply-tags-kinds.ps
+abbrev apply-tags-at : ℕ → In 5 apply-tags-kinds.ps
 apply-tags-at t =
-    and 3 apply-tags-kinds.ps (is 3 apply-tags-kinds.ps μ-apply-tags t) apply-tags.Pre
+    and 5 apply-tags-kinds.ps (is 5 apply-tags-kinds.ps μ-apply-tags t) apply-tags.Pre
 
-abbrev apply-tags-below : ℕ → In 3 apply-tags-kinds.ps
+abbrev apply-tags-below : ℕ → In 5 apply-tags-kinds.ps
 apply-tags-below t =
-    and 3 apply-tags-kinds.ps (falls 3 apply-tags-kinds.ps _<_ μ-apply-tags t) apply-tags.Pre
+    and 5 apply-tags-kinds.ps (falls 5 apply-tags-kinds.ps _<_ μ-apply-tags t) apply-tags.Pre
 
 abbrev calls-tags : ℕ → apply-tags-lts.Claims
 calls-tags t = (
@@ -208,7 +213,7 @@ calls-tags t = (
 )
 
 abbrev Inv-loop : apply-tags-lts.InvT-loop
-Inv-loop table first count deep t dur write fault₀ out₀ post₀ at₀ end fault out post at = Running (toZ w32 t) (toZ w32 dur) table deep first count post₀ end out₀ fault out at post
+Inv-loop table first count deep t dur write fault₀ out₀ post₀ at₀ end fault out post at = Running t dur table deep first count post₀ end out₀ fault out at post
 
 abbrev μ-loop : apply-tags-lts.MeasureT-loop
 μ-loop table first count deep t dur write fault₀ out₀ post₀ at₀ end fault out post at = end - at
@@ -235,31 +240,42 @@ sub-t-stands-2 t c = omega (arith, c .before .before .before .loop-test .taken)
 
 apply-t-requires : (t : ℕ) → apply-tags-lts.Need-apply-t-requires (calls-tags t) (apply-tags-at t) apply-tags.Post Inv-loop μ-loop
 apply-t-requires t c κs =
-    let l = c .before .before .before .before .before .before .before .before .before .before .loop .inv in
-    let s = c .before .before .before .before .before .before .before .before .before .before .before .before in
-    let m = t-room (c .before .before .before .before .before .before .before .before .before .before .loop .inv .checking) (c .before .before .before .before .before .before .before .before .before .loop-test .taken) (c .before .before .before .before .before .before .before .before .record-at .ensures) (c .before .before .before .before .before .before .before .match .keys49) (c .before .before .before .before .before .t-stands .ensures) (not-false _ (c .before .before .before .before .if49 .left)) in
-    (omega (arith, m .1, l .checking .tags .less, c .before .before .before .before .before .before .before .before .before .loop-test .taken, s .pre .0), (m .0, omega (arith, m .1, c .before .before .before .before .before .before .before .before .before .loop-test .taken, s .pre .1 .0), l .none))
+    let l = c .before .before .before .before .before .before .before .before .before .before .before .before .loop .inv in
+    let s = c .before .before .before .before .before .before .before .before .before .before .before .before .before .before in
+    let m = t-room (c .before .before .before .before .before .before .before .before .before .before .before .before .loop .inv .checking) (c .before .before .before .before .before .before .before .before .before .before .before .loop-test .taken) (c .before .before .before .before .before .before .before .before .before .before .record-at .ensures) (c .before .before .before .before .before .before .before .before .before .match .keys49) (c .before .before .before .before .before .before .before .t-stands .ensures) (not-false _ (c .before .before .before .before .before .before .if49 .left)) in
+    (omega (arith, m .1, l .checking .tags .less, c .before .before .before .before .before .before .before .before .before .before .before .loop-test .taken, s .pre .0), (m .0, omega (arith, m .1, c .before .before .before .before .before .before .before .before .before .before .before .loop-test .taken, s .pre .1 .0), l .none))
 
 add-at : (t : ℕ) → apply-tags-lts.Need-add-at (calls-tags t) (apply-tags-at t) apply-tags.Post Inv-loop μ-loop
 add-at t c =
-    let m = t-room (c .before .before .before .before .before .before .before .before .before .before .before .before .before .before .loop .inv .checking) (c .before .before .before .before .before .before .before .before .before .before .before .before .before .loop-test .taken) (c .before .before .before .before .before .before .before .before .before .before .before .before .record-at .ensures) (c .before .before .before .before .before .before .before .before .before .before .before .match .keys49) (c .before .before .before .before .before .before .before .before .before .t-stands .ensures) (not-false _ (c .before .before .before .before .before .before .before .before .if49 .left)) in
-    omega (arith, m .1, c .before .before .before .before .before .before .before .before .before .before .before .before .before .loop-test .taken, c .before .before .before .before .before .before .before .before .before .before .before .before .before .before .before .before .pre .1 .0, c .before .before .before .before .before .before .before .before .before .before .before .before .before .before .before .before .good .0)
+    let m = t-room (c .before .before .before .before .before .before .before .before .before .before .before .before .before .before .before .before .loop .inv .checking) (c .before .before .before .before .before .before .before .before .before .before .before .before .before .before .before .loop-test .taken) (c .before .before .before .before .before .before .before .before .before .before .before .before .before .before .record-at .ensures) (c .before .before .before .before .before .before .before .before .before .before .before .before .before .match .keys49) (c .before .before .before .before .before .before .before .before .before .before .before .t-stands .ensures) (not-false _ (c .before .before .before .before .before .before .before .before .before .before .if49 .left)) in
+    omega (arith, m .1, c .before .before .before .before .before .before .before .before .before .before .before .before .before .before .before .loop-test .taken, c .before .before .before .before .before .before .before .before .before .before .before .before .before .before .before .before .before .before .pre .1 .0, c .before .before .before .before .before .before .before .before .before .before .before .before .before .before .before .before .before .before .good .0)
+
+-- a time that is read is the one that is lent
+seen : (x : ℤ) → mag x < 2 ^ hbits w32 → toZ w32 (ofZ w32 x) ≡ x
+seen x h = toZ-ofZ w32 x (sfits-of h)
+
+both-seen : {A : Type 0} (g : ℤ → ℤ → A) {x y t dur : ℤ} → x ≡ t → y ≡ dur → g x y ≡ g t dur
+both-seen g e h = rw (e, h)
 
 turn : (t : ℕ) (c : apply-tags-lts.After-row-known2 (calls-tags t) (apply-tags-at t) apply-tags.Post Inv-loop μ-loop) →
     let s = c .before .before .before .before .before .before in
     let l = c .before .before .before .before .loop in
     let m = c .before .match in
-    Turned (toZ w32 (ofZ w32 (s .args .t))) (toZ w32 (ofZ w32 (s .args .dur))) (s .args .table .now) (s .args .deep) (s .args .first) (s .args .count) (s .args .st) (s .args .first + s .args .count) (s .args .out .now) (l .at) (m .fault) (m .out) (m .at) (m .post)
+    Turned (s .args .t .now) (s .args .dur .now) (s .args .table .now) (s .args .deep) (s .args .first) (s .args .count) (s .args .st) (s .args .first + s .args .count) (s .args .out .now) (l .at) (m .fault) (m .out) (m .at) (m .post)
 unfolding applyOwn faded decodeOne decoders inRange rows identity
 turn t c =
     let i = c .before .before .record-at .ensures in
     let h = c .before .before .before .loop-test .taken in
     let l = c .before .before .before .before .loop .inv in
     let p = c .before .before .before .before .loop .post in
-    ⊎-elim (λ w. plain-turn l h 1 i (w .0 .keys1) (unjoined (w .1 .ensures)) refl (w .2 .taken) (sym (rw (w .3 .ensures))) (w .6) (w .7) (w .8) (w .9))
-    (⊎-elim (λ w. plain-turn l h 2 i (w .0 .keys2) (unjoined (w .1 .ensures)) refl (w .2 .taken) (sym (rw (w .3 .ensures))) (w .6) (w .7) (w .8) (w .9))
+    let s = c .before .before .before .before .before .before in
+    let r = c .before .before .record-at .result in
+    let seen-t = seen (s .args .t .now) in
+    let seen-dur = seen (s .args .dur .now) in
+    ⊎-elim (λ w. plain-turn l h 1 i (w .0 .keys1) (unjoined (w .1 .ensures)) refl (w .2 .taken) (sym (rw (w .5 .ensures ∙ both-seen (λ (x y : ℤ). fadAlpha (r .w1) (r .w2) x y) (seen-t (w .3 .given)) (seen-dur (w .4 .given))))) (w .8) (w .9) (w .10) (w .11))
+    (⊎-elim (λ w. plain-turn l h 2 i (w .0 .keys2) (unjoined (w .1 .ensures)) refl (w .2 .taken) (sym (rw (w .4 .ensures ∙ ap (λ (x : ℤ). fadeMul (r .w1) (r .w2) (r .w3) (r .w4) (r .w5) (r .w6) (r .w7) x) (seen-t (w .3 .given))))) (w .7) (w .8) (w .9) (w .10))
     (⊎-elim (λ w. plain-turn l h 3 i (w .0 .keys3) (unjoined (w .1 .ensures)) refl (w .2 .taken) (sym (rw (w .4 .ensures))) (w .5) (w .6) (w .7) (w .8))
-    (⊎-elim (λ w. plain-turn l h 4 i (w .0 .keys4) (w .1 .ensures) refl (w .2 .taken) (sym (rw (w .5 .ensures, w .3 .ensures))) (w .6) (w .7) (w .8) (w .9))
+    (⊎-elim (λ w. plain-turn l h 4 i (w .0 .keys4) (w .1 .ensures) refl (w .2 .taken) (sym (rw (w .7 .ensures, w .5 .ensures ∙ both-seen (λ (x y : ℤ). progressBy (r .w5) (r .w6) (r .w7) x y) (seen-t (w .3 .given)) (seen-dur (w .4 .given))))) (w .8) (w .9) (w .10) (w .11))
     (⊎-elim (λ w. plain-turn l h 5 i (w .0 .keys5) (unjoined (w .1 .ensures)) refl (w .2 .taken) (sym (rw (w .3 .ensures))) (w .5) (w .6) (w .7) (w .8))
     (⊎-elim (λ w. plain-turn l h 6 i (w .0 .keys6) (unjoined (w .1 .ensures)) refl (w .2 .taken) (sym (rw (w .3 .ensures))) (w .5) (w .6) (w .7) (w .8))
     (⊎-elim (λ w. plain-turn l h 7 i (w .0 .keys7) (unjoined (w .1 .ensures)) refl (w .2 .taken) (sym (rw (w .3 .ensures))) (w .5) (w .6) (w .7) (w .8))
@@ -304,8 +320,8 @@ turn t c =
     (⊎-elim (λ w. plain-turn l h 46 i (w .0 .keys46) (unjoined (w .1 .ensures)) refl (not-false _ (w .2 .left)) refl (w .3) (w .4) (w .5) (w .6))
     (⊎-elim (λ w. plain-turn l h 47 i (w .0 .keys47) (unjoined (w .1 .ensures)) refl (w .2 .taken) (sym (rw (w .4 .ensures))) (w .5) (w .6) (w .7) (w .8))
     (⊎-elim (λ w. plain-turn l h 48 i (w .0 .keys48) (unjoined (w .1 .ensures)) refl (w .2 .taken) (sym (rw (w .4 .ensures))) (w .5) (w .6) (w .7) (w .8))
-    (⊎-elim (λ w. let n = none-inside _ _ _ _ _ _ _ (w .5 .taken) in t-turn l h i (w .0 .keys49) (w .2 .ensures) (not-false _ (w .3 .left)) refl (n .0) (n .1) (w .4 .ensures) (w .6 .ensures) (w .7 ∙ l .none) (w .8 ∙ l .same) (w .9) (rw (w .10) (omega (arith, w .5 .taken))))
-    (λ w. let a = w .8 .ensures in let z = zero-told (w .10 .left) in t-turn l h i (w .0 .keys49) (w .2 .ensures) (not-false _ (w .3 .left)) refl (sym z ∙ a .ground) (a .state z) (w .4 .ensures) (w .11 .ensures) (rw (w .12) (omega (arith, w .10 .left))) (w .13 ∙ a .words ∙ l .same) (w .14) (w .15)))))))))))))))))))))))))))))))))))))))))))))))))) (c .before .match .came)
+    (⊎-elim (λ w. let n = none-inside _ _ _ _ _ _ _ (w .7 .taken) in t-turn l h i (w .0 .keys49) (w .2 .ensures) (not-false _ (w .3 .left)) refl (n .0) (n .1) (w .6 .ensures ∙ both-seen (λ (x y : ℤ). factor (timesOf (r .w1) (r .w2) (r .w3)) (f (r .w4)) x y) (seen-t (w .4 .given)) (seen-dur (w .5 .given))) (w .8 .ensures) (w .9 ∙ l .none) (w .10 ∙ l .same) (w .11) (rw (w .12) (omega (arith, w .7 .taken))))
+    (λ w. let a = w .10 .ensures in let z = zero-told (w .12 .left) in t-turn l h i (w .0 .keys49) (w .2 .ensures) (not-false _ (w .3 .left)) refl (sym z ∙ a .ground) (a .state z) (w .6 .ensures ∙ both-seen (λ (x y : ℤ). factor (timesOf (r .w1) (r .w2) (r .w3)) (f (r .w4)) x y) (seen-t (w .4 .given)) (seen-dur (w .5 .given))) (w .13 .ensures) (rw (w .14) (omega (arith, w .12 .left))) (w .15 ∙ a .words ∙ l .same) (w .16) (w .17)))))))))))))))))))))))))))))))))))))))))))))))))) (c .before .match .came)
 
 add-at-2 : (t : ℕ) → apply-tags-lts.Need-add-at-2 (calls-tags t) (apply-tags-at t) apply-tags.Post Inv-loop μ-loop
 add-at-2 t c = omega (arith, within-end (turn t c .on), c .before .before .before .before .before .before .pre .1 .0, c .before .before .before .before .before .before .good .0)
@@ -320,9 +336,9 @@ loop-again t c = turn t c .on
 
 returns : (t : ℕ) → apply-tags-lts.Need-returns (calls-tags t) (apply-tags-at t) apply-tags.Post Inv-loop μ-loop
 returns t c =
-    let l = c .before .before .before .before .before .before .before .before .before .before .before .before .before .loop .inv in
+    let l = c .before .before .before .before .before .before .before .before .before .before .before .before .before .before .before .loop .inv in
     let e = c .before .before .apply-t .ensures in
-    refused-is (c .if51 .taken) (inner-refused (l .checking) (c .before .before .before .before .before .before .before .before .before .before .before .before .loop-test .taken) (c .before .before .before .before .before .before .before .before .before .before .before .record-at .ensures) (c .before .before .before .before .before .before .before .before .before .before .match .keys49) (c .before .before .before .before .before .before .before .before .t-stands .ensures) (not-false _ (c .before .before .before .before .before .before .before .if49 .left)) _ (e .ground) (c .if51 .taken)) (e .words ∙ l .same)
+    refused-is (c .if51 .taken) (inner-refused (l .checking) (c .before .before .before .before .before .before .before .before .before .before .before .before .before .before .loop-test .taken) (c .before .before .before .before .before .before .before .before .before .before .before .before .before .record-at .ensures) (c .before .before .before .before .before .before .before .before .before .before .before .before .match .keys49) (c .before .before .before .before .before .before .before .before .before .before .t-stands .ensures) (not-false _ (c .before .before .before .before .before .before .before .before .before .if49 .left)) _ (e .ground) (c .if51 .taken)) (e .words ∙ l .same)
 
 at-fault : (t : ℕ) (c : apply-tags-lts.Then52 (calls-tags t) (apply-tags-at t) apply-tags.Post Inv-loop μ-loop) →
     let s = c .before .before .before .before in
@@ -405,14 +421,12 @@ put-from-70-requires t c κs = c .before .put-from-44 .ensures .clear
 
 returns-3 : (t : ℕ) → apply-tags-lts.Need-returns-3 (calls-tags t) (apply-tags-at t) apply-tags.Post Inv-loop μ-loop
 returns-3 t c =
-    let s = c .before .before .before .before .before .before .before .before .before .before .before .before .before .before .before in
-    applied-is (toZ-ofZ w32 (s .args .t) (s .fits .t)) (toZ-ofZ w32 (s .args .dur) (s .fits .dur)) (c .before .before .before .before .before .before .before .before .before .before .before .before .before .loop .inv) (c .before .before .before .before .before .before .before .before .before .before .before .if52 .left)
+    applied-is (c .before .before .before .before .before .before .before .before .before .before .before .before .before .loop .inv) (c .before .before .before .before .before .before .before .before .before .before .before .if52 .left)
     (rw (c .before .before .before .before .before .before .before .before .before .before .if53 .taken) (whole _ _ _ _ _ _ (c .before .before .before .before .before .before .before .before .clear .ensures .wide) (c .before .before .before .before .before .before .put-from-0 .ensures .is) (c .before .before .before .before .put-from-18 .ensures .is) (c .before .before .put-from-44 .ensures .is) (c .put-from-70 .ensures .is)))
 
 returns-4 : (t : ℕ) → apply-tags-lts.Need-returns-4 (calls-tags t) (apply-tags-at t) apply-tags.Post Inv-loop μ-loop
 returns-4 t c =
-    let s = c .before .before .before .before .before in
-    applied-is (toZ-ofZ w32 (s .args .t) (s .fits .t)) (toZ-ofZ w32 (s .args .dur) (s .fits .dur)) (c .before .before .before .loop .inv) (c .before .if52 .left) (rw (c .if53 .left) refl)
+    applied-is (c .before .before .before .loop .inv) (c .before .if52 .left) (rw (c .if53 .left) refl)
 
 pub +apply-t+apply-tags-spec : {M : Type 1} → statement M
 +apply-t+apply-tags-spec = close μ-apply-t μ-apply-tags
@@ -420,6 +434,6 @@ pub +apply-t+apply-tags-spec : {M : Type 1} → statement M
     (λ c. omega (arith, c .before .pre .1 .1, c .before .good .0))
     (λ c. omega (arith, c .before .pre .1 .0))
     (λ c κs. let p = c .before .before .before .pre in (omega (arith, p .0), (p .1 .1, p .1 .2)))
-    (λ c. let s = c .before .before .before .before in rw (toZ-ofZ w32 (s .args .t) (s .fits .t), toZ-ofZ w32 (s .args .dur) (s .fits .dur)) at (c .apply-tags .ensures)))
+    (λ c. c .apply-tags .ensures))
     (λ t. apply-tags-lts.spec (calls-tags t) (apply-tags-at t) apply-tags.Post Inv-loop μ-loop
     (add-end t) (loop-holds t) (record-at-requires t) (λ c κs. search needs) (λ c κs. search needs) (λ c κs. search needs) (λ c κs. search needs) (λ c κs. search needs) (λ c κs. search needs) (λ c κs. search needs) (λ c κs. search needs) (λ c κs. search needs) (λ c κs. search needs) (λ c κs. search needs) (λ c κs. search needs) (λ c κs. search needs) (λ c κs. search needs) (λ c κs. search needs) (λ c κs. search needs) (λ c κs. search needs) (λ c κs. search needs) (λ c κs. search needs) (λ c κs. search needs) (λ c κs. search needs) (λ c κs. search needs) (λ c κs. search needs) (λ c κs. search needs) (λ c κs. search needs) (λ c κs. search needs) (λ c κs. search needs) (λ c κs. search needs) (λ c κs. search needs) (λ c κs. search needs) (λ c κs. search needs) (λ c κs. search needs) (λ c κs. search needs) (λ c κs. search needs) (λ c κs. search needs) (λ c κs. search needs) (λ c κs. search needs) (λ c κs. search needs) (λ c κs. search needs) (λ c κs. search needs) (λ c κs. search needs) (λ c κs. search needs) (λ c κs. search needs) (λ c κs. search needs) (λ c κs. search needs) (λ c κs. search needs) (λ c κs. search needs) (λ c κs. search needs) (λ c κs. search needs) (λ c κs. search needs) (λ c κs. search needs) (λ c κs. search needs) (λ c κs. search needs) (λ c κs. search needs) (λ c κs. search needs) (λ c κs. search needs) (λ c κs. search needs) (λ c κs. search needs) (λ c κs. search needs) (λ c κs. search needs) (λ c κs. search needs) (λ c κs. search needs) (λ c κs. search needs) (λ c κs. search needs) (λ c κs. search needs) (λ c κs. search needs) (λ c κs. search needs) (λ c κs. search needs) (λ c κs. search needs) (λ c κs. search needs) (λ c κs. search needs) (λ c κs. search needs) (λ c κs. search needs) (λ c κs. search needs) (λ c κs. search needs) (λ c κs. search needs) (λ c κs. search needs) (λ c κs. search needs) (λ c κs. search needs) (λ c κs. search needs) (λ c κs. search needs) (λ c κs. search needs) (λ c κs. search needs) (λ c κs. search needs) (λ c κs. search needs) (λ c κs. search needs) (λ c κs. search needs) (λ c κs. search needs) (λ c κs. search needs) (λ c κs. search needs) (λ c κs. search needs) (λ c κs. search needs) (λ c κs. search needs) (λ c κs. search needs) (λ c κs. search needs) (λ c κs. search needs) (λ c κs. search needs) (λ c κs. search needs) (λ c κs. search needs) (λ c κs. search needs) (λ c κs. search needs) (λ c κs. search needs) (λ c κs. search needs) (λ c κs. search needs) (cast-n t) (sub-t-stands t) (sub-t-stands-2 t) (λ c κs. search needs) (λ c κs. search needs) (λ c κs. search needs) (apply-t-requires t) (returns t) (λ c κs. search needs) (add-at t) (add-at-2 t) (loop-less t) (loop-again t) (add-fault t) (returns-2 t) (clear-requires t) (put-from-0-requires t) (put-from-18-requires t) (put-from-44-requires t) (put-from-70-requires t) (returns-3 t) (returns-4 t))

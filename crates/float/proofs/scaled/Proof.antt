@@ -22,7 +22,8 @@ room c h =
     let x = c .args .x in
     let t = toBits binary32 x in
     let l = c .pre .1 in
-    scaled-room x (t % 2 ^ 23 + 2 ^ 23) (t / 2 ^ 23 - 1) (c .args .places) (high-value x (fit c) (c .pre .0) (omega arith)) _ (omega arith) (omega arith) (c .pre .2)
+    let k = t / 8388608 + c .args .places - 150 in
+    omega (arith, scaled-room x (t % 2 ^ 23 + 2 ^ 23) (t / 2 ^ 23 - 1) (c .args .places) (high-value x (fit c) (c .pre .0) (omega arith)) 32 k (omega arith) (omega arith) (c .pre .2))
 
 float-to-bits-b : tie.Need-float-to-bits-b
 float-to-bits-b c = not-nan (c .args .x) (c .pre .0)

@@ -26,48 +26,48 @@ rem-loop c = shifted-pos (c .loop .i) (c .loop .inv .2)
 left : (c : tie.In-loop Inv-loop μ-loop) → 1 ≤ c .before .loop .i
 left c = some-digits (c .before .loop .i) (c .before .before .args .v) (omega (arith, c .loop-test .taken))
 
+first-root-requires : tie.Need-first-root-requires Inv-loop μ-loop
+first-root-requires c κs = c .before .loop .inv .1
+
 sub-i : tie.Need-sub-i Inv-loop μ-loop
 sub-i c = left (c .before)
 
-root-digits-requires : tie.Need-root-digits-requires Inv-loop μ-loop
-root-digits-requires c κs = c .before .before .loop .inv .1
-
 of-digits-requires : tie.Need-of-digits-requires Inv-loop μ-loop
-of-digits-requires c κs = c .root-digits .ensures .0
+of-digits-requires c κs = c .first-root .ensures .0
 
 times-digit-requires : tie.Need-times-digit-requires Inv-loop μ-loop
-times-digit-requires c κs = omega (arith, left (c .before .before .before))
+times-digit-requires c κs = omega (arith, left (c .before .before))
 
 -- the invariant after the first root
 once : (c : tie.After-times-digit Inv-loop μ-loop)
-    → let l = c .before .before .before .before .before in
+    → let l = c .before .before .before .before in
     let a = l .before .args in
-    Inv-loop (a .m) (a .v) (a .d) (a .whole) (a .whole) (a .m) (a .d) (c .times-digit .result) (c .before .before .root-digits .result) (l .loop .i - 1)
+    Inv-loop (a .m) (a .v) (a .d) (a .whole) (a .whole) (a .m) (a .d) (c .times-digit .result) (c .before .before .first-root .result .digits) (l .loop .i - 1)
 once c =
-    let w = c .before .before .before .before in
+    let w = c .before .before .before in
     let l = w .before in
-    let r = c .before .before .root-digits in
-    (near-step (l .loop .i) _ (l .loop .r) (r .result) (l .loop .p) _ _ (left w) (r .ensures .1) (c .before .of-digits .ensures) (c .times-digit .ensures) ∙ l .loop .inv .0, r .ensures .0, omega arith)
+    let r = c .before .before .first-root in
+    (near-step (l .loop .i) _ (l .loop .r) (r .result .digits) (l .loop .p) _ _ (left w) (r .ensures .1) (c .before .of-digits .ensures) (c .times-digit .ensures) ∙ l .loop .inv .0, r .ensures .0, omega arith)
 
 shl-if1 : tie.Need-shl-if1 Inv-loop μ-loop
 shl-if1 c = omega arith
 
 rem-if1 : tie.Need-rem-if1 Inv-loop μ-loop
-rem-if1 c = shifted-pos (c .before .before .before .before .before .loop .i - 1) (once c .2)
+rem-if1 c = shifted-pos (c .before .before .before .before .loop .i - 1) (once c .2)
 
-left-2 : (c : tie.Then1 Inv-loop μ-loop) → 1 ≤ c .before .before .before .before .before .before .loop .i - 1
+left-2 : (c : tie.Then1 Inv-loop μ-loop) → 1 ≤ c .before .before .before .before .before .loop .i - 1
 left-2 c =
-    let l = c .before .before .before .before .before .before in
+    let l = c .before .before .before .before .before in
     some-digits (l .loop .i - 1) (l .before .args .v) (omega (arith, c .if1 .taken))
 
 sub-i-2 : tie.Need-sub-i-2 Inv-loop μ-loop
 sub-i-2 c = left-2 c
 
-root-digits-requires-2 : tie.Need-root-digits-requires-2 Inv-loop μ-loop
-root-digits-requires-2 c κs = once (c .before) .1
+root-digits-requires : tie.Need-root-digits-requires Inv-loop μ-loop
+root-digits-requires c κs = once (c .before) .1
 
 of-digits-requires-2 : tie.Need-of-digits-requires-2 Inv-loop μ-loop
-of-digits-requires-2 c κs = c .root-digits2 .ensures .0
+of-digits-requires-2 c κs = c .root-digits .ensures .0
 
 times-digit-requires-2 : tie.Need-times-digit-requires-2 Inv-loop μ-loop
 times-digit-requires-2 c κs = omega (arith, left-2 (c .before .before))
@@ -79,14 +79,14 @@ loop-again : tie.Need-loop-again Inv-loop μ-loop
 loop-again c =
     let w = c .before .before .before in
     let o = w .before in
-    let r = c .before .before .root-digits2 in (
-      near-step (o .before .before .before .before .before .loop .i - 1) _ (o .before .before .root-digits .result) (r .result) (o .times-digit .result) _ _ (left-2 w) (r .ensures .1) (c .before .of-digits2 .ensures) (c .times-digit2 .ensures) ∙ once o .0,
+    let r = c .before .before .root-digits in (
+      near-step (o .before .before .before .before .loop .i - 1) _ (o .before .before .first-root .result .digits) (r .result) (o .times-digit .result) _ _ (left-2 w) (r .ensures .1) (c .before .of-digits2 .ensures) (c .times-digit2 .ensures) ∙ once o .0,
       r .ensures .0,
       omega (arith, once o .2),
     )
 
 loop-less-2 : tie.Need-loop-less-2 Inv-loop μ-loop
-loop-less-2 c = omega (arith, left (c .before .before .before .before .before))
+loop-less-2 c = omega (arith, left (c .before .before .before .before))
 
 loop-again-2 : tie.Need-loop-again-2 Inv-loop μ-loop
 loop-again-2 c = once (c .before)
@@ -105,15 +105,14 @@ near-one-spec =
     loop-holds
     shl-loop
     rem-loop
-    (λ c κs. search needs)
+    first-root-requires
     sub-i
-    root-digits-requires
     of-digits-requires
     times-digit-requires
     shl-if1
     rem-if1
     sub-i-2
-    root-digits-requires-2
+    root-digits-requires
     of-digits-requires-2
     times-digit-requires-2
     loop-less
