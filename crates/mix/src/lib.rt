@@ -31,7 +31,7 @@ ghost use mathlib.Core.Path.{_≡_};
 ghost use Rattle.scan.specs.Scan.{pick};
 ghost use Rattle.tag.specs.Decode.{f, timesOf};
 ghost use Rattle.state.specs.declared.OptPair.{OptPair as Paired};
-ghost use Rattle.state.specs.Mix.{finite as finiteOf, nearZero, accelOf, between, bent as bentOf, held as heldOf, factor as factorOf, roundBetween, f32Or, i32Or, mixAlphas, mixAlways, mixClips, mixColors, mixF32, mixFont, mixI32, mixLine, mixOptPair, mixOptRect, mixOptRgb, mixPlaces, mixRect, mixRgb, mixSizes, mixStrength, mixU8, pairOr, rectOr, samePair, u8Or};
+ghost use Rattle.state.specs.Mix.{finite as finiteOf, nearZero, accelOf, between, bent as bentOf, held as heldOf, factor as factorOf, roundBetween, f32Or, i32Or, mixAlphas, mixAlways, mixClips, mixColors, mixF32, mixFont, mixI32, mixLine, mixOptPair, mixOptRect, mixOptRgb, mixPlaces, mixRect, mixRgb, mixSizes, mixStrength, mixU8, pairOr, rectOr, rgbOr, samePair, u8Or};
 
 // ---- the factor
 
@@ -133,6 +133,15 @@ fn pair_or(a: OptPair, y: Pair) -> Pair
     match a {
         OptPair::None => y,
         OptPair::Some(x) => x,
+    }
+}
+
+fn rgb_or(a: OptRgb, y: Rgb) -> Rgb
+    ensures { λ r. ⌜ r ≡ rgbOr a y ⌝ }
+{
+    match a {
+        OptRgb::None => y,
+        OptRgb::Some(x) => x,
     }
 }
 
@@ -256,10 +265,7 @@ fn mix_opt_rgb(a: OptRgb, b: OptRgb, k: f32) -> OptRgb
 {
     match b {
         OptRgb::None => same_rgb(a),
-        OptRgb::Some(y) => match a {
-            OptRgb::None => OptRgb::Some(mix_rgb(y, y, k)),
-            OptRgb::Some(x) => OptRgb::Some(mix_rgb(x, y, k)),
-        },
+        OptRgb::Some(y) => OptRgb::Some(mix_rgb(rgb_or(a, y), y, k)),
     }
 }
 

@@ -22,11 +22,11 @@ rowOf k = pick (within 1 (length rows) k) (getD rows (k - 1) noRow) noRow
 abbrev fits : Row → Record → Bool
 fits c r = both (rowFits c r) (c .join r)
 
-never : (b : Bool) → pick b false false ≡ false
+pub never : (b : Bool) → pick b false false ≡ false
 never true = refl
 never false = refl
 
-as-is : (b : Bool) → pick b true false ≡ b
+pub as-is : (b : Bool) → pick b true false ≡ b
 as-is true = refl
 as-is false = refl
 

@@ -8,14 +8,7 @@ use borrow.Author.Tests.{eqb-true, eqb-false, ne-eqb, lt-leb}
 use Rattle.scan.specs.Scan.{both, within}
 use Rattle.tag.specs.Range.{timeWord, timesFit}
 use Rattle.table.specs.Inner.{flagTimes}
-
-never : (a : Bool) → both a false ≡ false
-never true = refl
-never false = refl
-
-always : (a : Bool) → both a true ≡ a
-always true = refl
-always false = refl
+use Rattle.table.proofs.ByKind.{never, as-is}
 
 -- no times
 pub none-fit : (f a b : ℕ) → f ≡ 0 → both (eqb a 0) (eqb b 0) ≡ flagTimes f a b
@@ -31,7 +24,7 @@ pub some-fit : (f a b : ℕ) → (f ≡ 0 → ⊥) → both (eqb f 1) (both (tim
 some-fit f a b n =
     let t = both (timeWord a) (timeWord b) in
     let e : true ≡ timesFit f a b = rw (ne-eqb f 0 n) in
-    ap (λ (x : Bool). both x t) flag ∙ sym (always (both (within 0 1 f) t)) ∙ ap (λ (y : Bool). both (both (within 0 1 f) t) y) e
+    ap (λ (x : Bool). both x t) flag ∙ sym (as-is (both (within 0 1 f) t)) ∙ ap (λ (y : Bool). both (both (within 0 1 f) t) y) e
   where
     flag : eqb f 1 ≡ within 0 1 f
     flag = at-one (eqb f 1) refl
