@@ -2,36 +2,28 @@
 use mathlib.Core.Path.{_≡_, refl, sym, ap, _∙_}
 use mathlib.Core.List.{List}
 use mathlib.Core.Bool.{Bool, true, false}
-use Prim.Native.Nat.{ℕ, zero, suc, _-_, _*_, _≤_, _<_, min}
+use Prim.Native.Nat.{ℕ, zero, suc, _-_, _≤_, _<_, min}
 use native.Mathlib.Omega.{arith}
 use lib.IntN.{ℤ}
-use lib.ListN.{length}
 use Rattle.refusal.specs.Refusal.{mostPlaces}
 use Rattle.refusal.specs.declared.Checked.{Checked}
 use Rattle.refusal.specs.declared.Checked.the-variants.{Good, Bad}
 use Rattle.refusal.specs.declared.Refusal.{Refusal}
 use Rattle.refusal.specs.declared.Refusal.the-variants.{TableMalformed}
-use Rattle.tag.specs.Tag.{mostDepth}
-use Rattle.tag.specs.Table.{width, placesOf}
+use Rattle.tag.specs.Table.{placesOf}
 use Rattle.tag.specs.WellFormed.{first, excess, tableGround}
 use Rattle.tag.specs.Decode.{tagsOf}
 use Rattle.state.specs.declared.RenderState.{RenderState}
-use Rattle.state.specs.State.{identity}
 use Rattle.state.specs.Apply.{evaluateAt}
 use Rattle.table.specs.Ground.{timeGround, callGround}
-use Rattle.table.specs.Inner.{Inside}
 use Rattle.table.proofs.Slices.{length-records}
 use Rattle.table.proofs.Grounds.{table-found, good-fine}
 use Rattle.words.specs.Words.{stateWords}
 use Rattle.evaluate.specs.declared.Evaluated.{Evaluated}
-use Rattle.evaluate.specs.Inner.{tagsAt, isGood, told, wordsIf, Applied}
+use Rattle.evaluate.specs.Inner.{tagsAt, isGood, told, wordsIf, AppliedAll}
 use Rattle.evaluate.specs.Evaluate.{evaluatedOr, evaluated, groundOf, stateAfter, InWords}
 
-pub all-inside : (ws : List ℕ) (end : ℕ) → end ≡ min (placesOf ws) mostPlaces → Inside ws 0 end
-all-inside ws end h = omega (arith, h)
-
-module _ {t dur : ℤ} {ws : List ℕ} {end : ℕ} {st : RenderState} {write : Bool} {v u : List ℕ} {r : RenderState} {x : ℕ}
-    (m : end ≡ min (placesOf ws) mostPlaces) (a : Applied t dur ws 0 end mostDepth st write v r x u) where
+module _ {t dur : ℤ} {ws : List ℕ} {write : Bool} {v u : List ℕ} {r : RenderState} {x : ℕ} (a : AppliedAll t dur ws write v r x u) where
   -- a record is at fault
   pub at-fault : 0 < x → Evaluated.Refused (TableMalformed (x - 1)) ≡ evaluated ws t dur
   unfolding evaluated callGround
@@ -41,7 +33,7 @@ module _ {t dur : ℤ} {ws : List ℕ} {end : ℕ} {st : RenderState} {write : B
       go zero e = absurd (omega arith)
       go (suc n) e =
           let b : x - 1 ≡ n = omega arith in
-          let k : Bad (TableMalformed n) ≡ tableGround ws = table-found ws end (Bad (TableMalformed n)) m (rw e at (a .ground)) in
+          let k : Bad (TableMalformed n) ≡ tableGround ws = table-found ws (min (placesOf ws) mostPlaces) (Bad (TableMalformed n)) refl (rw e at (a .ground)) in
           rw b (ap (λ (c : Checked). evaluatedOr (first c (timeGround t dur)) (evaluateAt t dur (tagsOf ws))) k)
 
   module _ (z : x ≤ 0) {c : Checked} (f : c ≡ first (excess ws) (timeGround t dur)) where
@@ -52,19 +44,19 @@ module _ {t dur : ℤ} {ws : List ℕ} {end : ℕ} {st : RenderState} {write : B
     left : c ≡ callGround ws t dur
     unfolding callGround
     left =
-        let k : excess ws ≡ tableGround ws = table-found ws end Good m (sym none ∙ a .ground) in
+        let k : excess ws ≡ tableGround ws = table-found ws (min (placesOf ws) mostPlaces) Good refl (sym none ∙ a .ground) in
         f ∙ ap (λ (y : Checked). first y (timeGround t dur)) k
 
     pub late : (b : Refusal) → c ≡ Bad b → Evaluated.Refused b ≡ evaluated ws t dur
     unfolding evaluated
     late b y = ap (λ (g : Checked). evaluatedOr g (evaluateAt t dur (tagsOf ws))) (sym y ∙ left)
 
-    pub stated : c ≡ Good → st ≡ identity → Evaluated.State r ≡ evaluated ws t dur
+    pub stated : c ≡ Good → Evaluated.State r ≡ evaluated ws t dur
     unfolding evaluated evaluateAt tagsAt
-    stated y s =
+    stated y =
         let k : Good ≡ callGround ws t dur = sym y ∙ left in
-        let p : end ≡ placesOf ws = omega (arith, m, good-fine ws t dur (sym k) .formed .few, length-records ws) in
-        ap Evaluated.State (rw (p, s) at (a .state none)) ∙ ap (λ (g : Checked). evaluatedOr g (evaluateAt t dur (tagsOf ws))) k
+        let p : min (placesOf ws) mostPlaces ≡ placesOf ws = omega (arith, good-fine ws t dur (sym k) .formed .few, length-records ws) in
+        ap Evaluated.State (rw p at (a .state none)) ∙ ap (λ (g : Checked). evaluatedOr g (evaluateAt t dur (tagsOf ws))) k
 
 -- ---- as words
 
@@ -74,20 +66,19 @@ refused {v = v} e = record { ground = ap groundOf e; state = ap (λ (a : Evaluat
 written : {ws v u : List ℕ} {t dur : ℤ} {st : RenderState} → Evaluated.State st ≡ evaluated ws t dur → u ≡ stateWords st → InWords ws t dur v Good u
 written {v = v} e w = record { ground = ap groundOf e; state = w ∙ ap (λ (a : Evaluated). stateAfter a v) e }
 
-module _ {t dur : ℤ} {ws : List ℕ} {end : ℕ} {st : RenderState} {write : Bool} {v u : List ℕ} {r : RenderState} {x : ℕ}
-    (m : end ≡ min (placesOf ws) mostPlaces) (a : Applied t dur ws 0 end mostDepth st write v r x u) where
+module _ {t dur : ℤ} {ws : List ℕ} {write : Bool} {v u : List ℕ} {r : RenderState} {x : ℕ} (a : AppliedAll t dur ws write v r x u) where
   pub fault-in-words : 0 < x → InWords ws t dur v (Bad (TableMalformed (x - 1))) u
-  fault-in-words p = rw (a .words ∙ unwritten write x p) (refused (at-fault m a p))
+  fault-in-words p = rw (a .words ∙ unwritten write x p) (refused (at-fault a p))
     where
       unwritten : (w : Bool) (n : ℕ) → 0 < n → wordsIf w (told n) r v ≡ v
       unwritten w zero p = absurd (omega arith)
       unwritten true (suc n) p = refl
       unwritten false (suc n) p = refl
 
-  pub late-in-words : x ≤ 0 → (c : Checked) → c ≡ first (excess ws) (timeGround t dur) → write ≡ isGood c → st ≡ identity → InWords ws t dur v c u
-  late-in-words z Good f w s =
+  pub late-in-words : x ≤ 0 → (c : Checked) → c ≡ first (excess ws) (timeGround t dur) → write ≡ isGood c → InWords ws t dur v c u
+  late-in-words z Good f w =
       let e : x ≡ 0 = omega arith in
-      written (stated m a z f refl s) (rw (w, e) at (a .words))
-  late-in-words z (Bad b) f w s =
+      written (stated a z f refl) (rw (w, e) at (a .words))
+  late-in-words z (Bad b) f w =
       let e : u ≡ v = rw w at (a .words) in
-      rw e (refused (late m a z f b refl))
+      rw e (refused (late a z f b refl))

@@ -1,16 +1,16 @@
 -- One turn of the loop over the records of a table: what the first tag does, and the tags behind it.
 use mathlib.Core.Path.{_≡_, refl, sym, ap, _∙_}
-use mathlib.Core.List.{List, [], _∷_, _++_}
+use mathlib.Core.List.{List, [], _∷_}
 use mathlib.Core.Bool.{Bool, true, false}
 use Prim.Native.Nat.{ℕ, zero, suc, _+_, _-_, _*_, _≤_, _<_, min}
 use native.Mathlib.Omega.{arith}
-use lib.Dec.{eqb, leb}
+use lib.Dec.{leb}
 use lib.IntN.{ℤ}
 use lib.ListN.{length, take, drop, length-take, length-drop}
-use lib.Seq.{take-all, drop-drop}
+use lib.Seq.{drop-drop}
 use borrow.Author.Tests.{eq-eqb, ne-eqb, leb-true, leb-false}
 use Rattle.tag.specs.declared.Record.{Record}
-use Rattle.tag.specs.Tag.{Tags, none, and, inside, foldTag, foldTags}
+use Rattle.tag.specs.Tag.{Tags, none, and, inside}
 use Rattle.tag.specs.Table.{width}
 use Rattle.tag.specs.WellFormed.{recordAt, recordsTo, tKind, holds}
 use Rattle.tag.specs.Decode.{f, timesOf, decodeOne, decodeT, decodeIn, decode}

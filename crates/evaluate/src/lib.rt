@@ -3,7 +3,7 @@ ghost use mathlib.Core.Path.{_≡_};
 ghost use mathlib.Core.Bool.{false};
 ghost use Prim.Native.Nat.{_+_, _-_, _<_};
 ghost use Rattle.table.specs.Inner.{Inside};
-ghost use Rattle.evaluate.specs.Inner.{Applied, isGood};
+ghost use Rattle.evaluate.specs.Inner.{Applied, AppliedAll, isGood};
 ghost use Rattle.evaluate.specs.Evaluate.{evaluated, InWords};
 use apply::times::fad_alpha;
 use apply::values::both;
@@ -547,26 +547,32 @@ fn good(c: Checked) -> bool
     }
 }
 
+// All records, from `identity` on. The state comes back to where it was given from: a second one would take its room on the stack.
+fn apply_all(
+    table: &[u32],
+    t: &i32,
+    dur: &i32,
+    write: bool,
+    fault: &mut usize,
+    out: &mut [u32; 92],
+) -> RenderState
+    ensures { λ r. ⌜ AppliedAll (now (t .entry)) (now (dur .entry)) (now (table .entry)) write (now (out .entry)) r (now (fault .exit)) (now (out .exit)) ⌝ }
+{
+    let words = table;
+    let end = scan::least(words.len() / 8, 1024);
+    *fault = 0;
+    let mut st = state::identity();
+    st = apply_tags(words, 0, end, 8, st, t, dur, write, fault, out);
+    st
+}
+
 // 01, Evaluation: the state at t of the tags that the table stands for, in a line of dur milliseconds.
 pub fn evaluate_at(table: &[u32], t: i32, dur: i32) -> Evaluated
     ensures { λ r. ⌜ r ≡ evaluated (now (table .entry)) t dur ⌝ }
 {
     let mut fault: usize = 0;
     let mut unwritten = [0; 92];
-    let end = scan::least(table.len() / 8, 1024);
-    let mut st = state::identity();
-    st = apply_tags(
-        table,
-        0,
-        end,
-        8,
-        st,
-        &t,
-        &dur,
-        false,
-        &mut fault,
-        &mut unwritten,
-    );
+    let st = apply_all(table, &t, &dur, false, &mut fault, &mut unwritten);
     if fault > 0 {
         return Evaluated::Refused(Refusal::TableMalformed(fault - 1));
     }
@@ -577,26 +583,13 @@ pub fn evaluate_at(table: &[u32], t: i32, dur: i32) -> Evaluated
 }
 
 // The same as a ground and the 92 words of the C interface. What is left of the grounds is looked for first, so that the words are written
-// where nothing stands against them. The state comes back to where it was given from: a second one would take its room on the stack.
+// where nothing stands against them.
 pub fn write_at(table: &[u32], t: i32, dur: i32, state: &mut [u32; 92]) -> Checked
     ensures { λ c. ⌜ InWords (now (table .entry)) t dur (now (state .entry)) c (now (state .exit)) ⌝ }
 {
     let late = table::after_records(table, t, dur);
     let mut fault: usize = 0;
-    let end = scan::least(table.len() / 8, 1024);
-    let mut st = state::identity();
-    st = apply_tags(
-        table,
-        0,
-        end,
-        8,
-        st,
-        &t,
-        &dur,
-        good(late),
-        &mut fault,
-        state,
-    );
+    apply_all(table, &t, &dur, good(late), &mut fault, state);
     if fault > 0 {
         return Checked::Bad(Refusal::TableMalformed(fault - 1));
     }

@@ -26,7 +26,6 @@ use state::Places;
 use state::RenderState;
 use state::Rgb;
 use state::Sizes;
-use tag::Record;
 ghost use mathlib.Core.Path.{_≡_};
 ghost use Rattle.scan.specs.Scan.{pick};
 ghost use Rattle.tag.specs.Decode.{f, timesOf};

@@ -8,7 +8,7 @@ use native.Mathlib.Omega.{arith}
 use lib.Dec.{leb, eqb}
 use lib.ListN.{length, getD, replicate}
 use types.Run.{OneOf}
-use borrow.Author.Tests.{leb-true, eqb-true, eq-eqb}
+use borrow.Author.Tests.{leb-true, eqb-true}
 use Rattle.scan.specs.Scan.{pick, within, both}
 use Rattle.scan.proofs.Laws.{le-or-lt}
 use Rattle.tag.specs.declared.Record.{Record}

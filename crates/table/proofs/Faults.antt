@@ -15,7 +15,6 @@ use Rattle.refusal.specs.declared.Refusal.{Refusal}
 use Rattle.refusal.specs.declared.Refusal.the-variants.{TableMalformed}
 use Rattle.tag.specs.declared.Record.{Record}
 use Rattle.tag.specs.Tag.{mostDepth}
-use Rattle.tag.specs.Table.{placesOf}
 use Rattle.tag.specs.Range.{inRange}
 use Rattle.tag.specs.WellFormed.{tKind, holds, first, faultIn, fault}
 use Rattle.table.specs.Inner.{recordIn, part, Inside, ofKind, stands, tStands, faultOfT}

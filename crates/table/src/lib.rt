@@ -3,14 +3,12 @@ use refusal::Checked;
 use refusal::Refusal;
 use tag::Record;
 ghost use mathlib.Core.Path.{_≡_};
-ghost use mathlib.Core.Bool.{true};
-ghost use Prim.Native.Nat.{_+_, _-_, _*_, _≤_, _<_};
+ghost use Prim.Native.Nat.{_+_, _-_, _*_, _<_};
 ghost use lib.Dec.{eqb};
-ghost use lib.ListN.{length};
 ghost use Rattle.scan.specs.Scan.{both, within as withinOf};
 ghost use Rattle.tag.specs.Range.{unused, float, range, time, weight, free, timeWord, partFits, timesFit, wordFits, inRange};
 ghost use Rattle.tag.specs.WellFormed.{first, fault as faultOf, excess as excessOf, tableGround};
-ghost use Rattle.table.specs.Inner.{recordIn, part, Inside, wordsFit, oneFits, twoFit, flagTimes, fontParts, stylePart, ofKind, stands as standsOf, tStands, faultOfT};
+ghost use Rattle.table.specs.Inner.{recordIn, part, Inside, wordsFit, oneFits, twoFit, flagTimes, fontParts, stylePart, stands as standsOf, tStands, faultOfT};
 ghost use Rattle.table.specs.Ground.{inTime, timeGround, callGround};
 
 // The record with the index `at`.

@@ -1,3 +1,4 @@
+use native.Mathlib.Omega.{arith}
 use borrow.Author.Needs.{needs}
 use borrow.Author.Tests.{le-leb, lt-leb}
 use Rattle.state.specs.Apply.{aligned}
@@ -9,8 +10,8 @@ unfolding aligned
 aligned-spec =
     tie.close
     (tie.spec
-    (λ c. rw (lt-leb _ _ (c .if1 .taken)))
-    (λ c. rw (le-leb _ _ (c .before .if1 .left), lt-leb _ _ (c .if2 .taken)))
+    (λ c. rw (lt-leb 1 (c .before .args .n) (omega (arith, c .if1 .taken))))
+    (λ c. let n = c .before .before .args .n in rw (le-leb 1 n (omega (arith, c .before .if1 .left)), lt-leb n 9 (omega (arith, c .if2 .taken))))
     (λ c. search needs)
     (λ c κs. tt)
-    (λ c. rw (le-leb _ _ (c .before .before .if1 .left), le-leb _ _ (c .before .if2 .left), c .this-u8 .ensures)))
+    (λ c. let n = c .before .before .before .args .n in rw (le-leb 1 n (omega (arith, c .before .before .if1 .left)), le-leb n 9 (omega (arith, c .before .if2 .left)), c .this-u8 .ensures)))

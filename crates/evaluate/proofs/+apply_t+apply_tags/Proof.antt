@@ -1,6 +1,5 @@
 -- The loop over the records, kind by kind.
 use mathlib.Core.Path.{_≡_, refl, sym, ap, _∙_}
-use mathlib.Core.Bool.{true, false}
 use mathlib.Core.Logic.{⊎-elim}
 use native.Mathlib.Omega.{arith}
 use borrow.Author.Needs.{needs, sfits-of}
@@ -10,7 +9,6 @@ use mir.Val.{toZ, ofZ, hbits}
 use mir.ValLaws.{toZ-ofZ}
 use lib.IntN.{ℤ}
 use lib.Signed.{mag}
-use Rattle.refusal.specs.declared.Checked.the-variants.{Good}
 use Rattle.tag.specs.Range.{inRange, rows}
 use Rattle.tag.specs.WellFormed.{fault}
 use Rattle.tag.specs.Decode.{f, timesOf, decodeOne, decoders}
@@ -23,8 +21,8 @@ use Rattle.table.specs.Inner.{part}
 use Rattle.table.proofs.ByKind.{unjoined}
 use Rattle.words.proofs.Laws.{whole}
 use Rattle.evaluate.specs.Inner.{told}
-use Rattle.evaluate.proofs.Checking.{Checking, Running, Turned, start, one, kind-refused, none-refused, t-refused, t-room, inner-refused, none-inside, zero-told, within-end, turn-less, plain-turn, t-turn, refused-is, applied-is}
-use Prim.Native.Nat.{ℕ, _<_, _≤_, _+_, _-_, _*_, _^_}
+use Rattle.evaluate.proofs.Checking.{Running, Turned, start, one, kind-refused, none-refused, t-refused, t-room, inner-refused, none-inside, zero-told, within-end, turn-less, plain-turn, t-turn, refused-is, applied-is}
+use Prim.Native.Nat.{ℕ, _<_, _+_, _-_, _*_, _^_}
 use borrow.Fn.Kinds.{In}
 use borrow.Fn.PlainCycle.{Measures, is, falls, and}
 use Rattle.evaluate.proofs.apply_t.Reads as apply-t

@@ -1,4 +1,3 @@
-use mathlib.Core.Path.{_≡_, sym, _∙_}
 use borrow.Author.Needs.{needs}
 use mir.Syntax.{w32}
 use mir.ValLaws.{toZ-ofZ}
@@ -8,18 +7,18 @@ use Rattle.evaluate.proofs.evaluate_at.Tie as tie
 
 returns : tie.Need-returns
 returns c =
-    let s = c .before .before .before .before .before .before .before .before .before in
-    rw (toZ-ofZ w32 (s .args .t2) (s .fits .t2), toZ-ofZ w32 (s .args .t3) (s .fits .t3)) at (at-fault (c .before .before .before .before .before .before .before .least .ensures) (c .before .apply-tags .ensures) (c .if1 .taken))
+    let s = c .before .before .before .before .before .before .before in
+    rw (toZ-ofZ w32 (s .args .t2) (s .fits .t2), toZ-ofZ w32 (s .args .t3) (s .fits .t3)) at (at-fault (c .before .apply-all .ensures) (c .if1 .taken))
 
 returns-2 : tie.Need-returns-2
 returns-2 c =
-    let s = c .before .before .before .before .before .before .before .before .before .before .before .before .before in
-    rw (toZ-ofZ w32 (s .args .t2) (s .fits .t2), toZ-ofZ w32 (s .args .t3) (s .fits .t3)) at (late (c .before .before .before .before .before .before .before .before .before .before .before .least .ensures) (c .before .before .before .before .before .apply-tags .ensures) (c .before .before .before .before .if1 .left) (c .before .before .before .after-records .ensures) _ (c .before .x .given .1))
+    let s = c .before .before .before .before .before .before .before .before .before .before .before in
+    rw (toZ-ofZ w32 (s .args .t2) (s .fits .t2), toZ-ofZ w32 (s .args .t3) (s .fits .t3)) at (late (c .before .before .before .before .before .apply-all .ensures) (c .before .before .before .before .if1 .left) (c .before .before .before .after-records .ensures) _ (c .before .x .given .1))
 
 returns-3 : tie.Need-returns-3
 returns-3 c =
-    let s = c .before .before .before .before .before .before .before .before .before .before .before .before in
-    rw (toZ-ofZ w32 (s .args .t2) (s .fits .t2), toZ-ofZ w32 (s .args .t3) (s .fits .t3)) at (stated (c .before .before .before .before .before .before .before .before .before .before .least .ensures) (c .before .before .before .before .apply-tags .ensures) (c .before .before .before .if1 .left) (c .before .before .after-records .ensures) (c .enum-told .given .1) (c .before .before .before .before .before .before .before .before .before .identity .ensures))
+    let s = c .before .before .before .before .before .before .before .before .before .before in
+    rw (toZ-ofZ w32 (s .args .t2) (s .fits .t2), toZ-ofZ w32 (s .args .t3) (s .fits .t3)) at (stated (c .before .before .before .before .apply-all .ensures) (c .before .before .before .if1 .left) (c .before .before .after-records .ensures) (c .enum-told .given .1))
 
 pub evaluate-at-spec : {M : Type 1} → statement M
-evaluate-at-spec = tie.close (tie.spec (λ c κs. search needs) (λ c κs. search needs) (λ c κs. search needs) (λ c. search needs) returns (λ c κs. search needs) (λ c. search needs) (λ c. search needs) returns-2 returns-3)
+evaluate-at-spec = tie.close (tie.spec (λ c κs. search needs) (λ c. search needs) returns (λ c κs. search needs) (λ c. search needs) (λ c. search needs) returns-2 returns-3)

@@ -1,10 +1,9 @@
-use mathlib.Core.Path.{_≡_, refl, sym, ap, _∙_}
-use Prim.Native.Nat.{ℕ, _*_, _/_, _^_, _<_, min}
+use mathlib.Core.Path.{_≡_, refl, sym, _∙_}
+use Prim.Native.Nat.{_*_, _/_, _^_, _<_}
 use native.Mathlib.Nat.{div-lt-iff-lt-mul}
 use native.Mathlib.Omega.{arith}
 use lib.Ieee.{ofBits}
 use lib.Ieee.Positive.{num, den, den-pos}
-use borrow.Author.Needs.{needs}
 use Rattle.float.specs.Float.{scaledTo}
 use Rattle.float.proofs.Sign.{is-above, not-above}
 use Rattle.float.proofs.Law.{Low, low-scaled, high-scaled, cut-byte-above, cut-byte-low}

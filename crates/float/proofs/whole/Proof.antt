@@ -8,7 +8,7 @@ use lib.Dec.{T}
 use lib.Ieee.{binary32, toBits, fits}
 use lib.Ieee.Positive.{num, den}
 use borrow.Author.Needs.{needs}
-use Rattle.float.proofs.Bits.{not-nan, below-sign, low-value, high-value, scaled-none, scaled-right, scaled-room}
+use Rattle.float.proofs.Bits.{not-nan, low-value, high-value, scaled-none, scaled-right, scaled-room}
 use Rattle.float.proofs.whole.Statement.{statement}
 use Rattle.float.proofs.whole.Tie as tie
 

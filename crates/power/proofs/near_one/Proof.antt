@@ -1,7 +1,6 @@
 use mathlib.Core.Path.{_≡_, refl, sym, _∙_}
 use Prim.Native.Nat.{_-_, _≤_}
 use native.Mathlib.Omega.{arith}
-use borrow.Author.Needs.{needs}
 use Rattle.root.specs.Inner.{Digits, part}
 use Rattle.power.specs.Power.{roots}
 use Rattle.power.proofs.Law.{shifted-pos, some-digits, near-step, roots-end}
