@@ -1,9 +1,10 @@
 -- The bits of a value above zero: its significand and exponent; and the value scaled by a power of two and cut down to a whole number.
 use mathlib.Core.Path.{_≡_, sym, ap, _∙_, subst}
 use Prim.Native.Nat.{ℕ, zero, suc, _+_, _-_, _*_, _/_, _%_, _^_, _≤_, _<_}
-use native.Mathlib.Nat.{le-trans, le-of-eq, lt-of-lt-of-le, lt-of-le-of-lt, mod-eq-of-lt, add-comm, mul-assoc, mul-right-comm, mul-le-mul-right, mul-div-cancel, div-lt-iff-lt-mul}
+use native.Mathlib.Nat.{le-trans, le-of-eq, lt-of-lt-of-le, lt-of-le-of-lt, mod-eq-of-lt, add-comm, mul-assoc, mul-right-comm, mul-le-mul-right, mul-div-cancel, div-lt-iff-lt-mul, eq-zero-or-pos}
 use native.Mathlib.Omega.{arith}
 use mathlib.Core.Bool.{Bool, true, false, not, cond}
+use mathlib.Core.Logic.{⊎-elim}
 use lib.Dec.{T, eqb, leb, nleb→lt}
 use lib.Pow.{pow-add, pow-pos, pow-mono, shl-lt}
 use lib.Ieee.{Float, nan, inf, fin, binary32, odd, fits, isNan, ofFields, ofBits, toBits}
@@ -120,3 +121,28 @@ module _ (x : Float) (m e j : ℕ) (h : HasValue x false (m * 2 ^ e) (2 ^ 149)) 
       (lt-of-le-of-lt (le-of-eq (pow-add 2 23 k))
       (lt-of-le-of-lt (mul-le-mul-right (2 ^ k) large)
       (lt-of-le-of-lt (le-of-eq (scaled-left k same)) (div-lt-iff-lt-mul (den-pos x) .1 small))))
+
+-- ---- the same by the bits
+module _ (x : Float) (f : T (fits binary32 x)) (p : T (positive x)) (j : ℕ) (u : j ≤ 8) where
+  abbrev field : ℕ
+  field = toBits binary32 x / 2 ^ 23
+
+  abbrev digits : ℕ
+  digits = toBits binary32 x % 2 ^ 23 + 2 ^ 23
+
+  -- below 1
+  pub bits-none : field + j < 127 → 0 ≡ num x * 2 ^ j / den x
+  bits-none l =
+      ⊎-elim
+      (λ z. scaled-none x (toBits binary32 x % 2 ^ 23) 0 j (low-value x f p z) (omega arith) (omega arith))
+      (λ h. scaled-none x digits (field - 1) j (high-value x f p h) (omega arith) (omega arith))
+      (eq-zero-or-pos field)
+
+  pub bits-right : 127 ≤ field + j → field + j ≤ 150 → digits / 2 ^ (150 - (field + j)) ≡ num x * 2 ^ j / den x
+  bits-right l h = scaled-right x digits (field - 1) j (high-value x f p (omega arith)) (150 - (field + j)) (omega arith)
+
+  -- with at most n digits before the point
+  pub bits-room : (n : ℕ) → num x * 2 ^ j < 2 ^ n * den x → 150 ≤ field + j → field + j < n + 127
+  bits-room n small h =
+      let k = field + j - 150 in
+      omega (arith, scaled-room x digits (field - 1) j (high-value x f p (omega arith)) n k (omega arith) (omega arith) small)

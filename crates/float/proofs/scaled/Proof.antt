@@ -1,13 +1,11 @@
 use mathlib.Core.Path.{sym, _∙_, subst}
-use mathlib.Core.Logic.{⊎-elim}
 use Prim.Native.Nat.{_+_, _-_, _/_, _%_, _^_, _≤_, _<_}
-use native.Mathlib.Nat.{eq-zero-or-pos}
 use native.Mathlib.Omega.{arith}
 use lib.Dec.{T}
 use lib.Pow.{shl-exact}
 use lib.Ieee.{binary32, toBits, fits}
 use borrow.Author.Needs.{needs}
-use Rattle.float.proofs.Bits.{not-nan, below-sign, low-value, high-value, scaled-none, scaled-right, scaled-left, scaled-room}
+use Rattle.float.proofs.Bits.{not-nan, below-sign, high-value, scaled-left, bits-none, bits-right, bits-room}
 use Rattle.float.proofs.scaled.Statement.{statement}
 use Rattle.float.proofs.scaled.Tie as tie
 
@@ -18,12 +16,7 @@ small : (c : tie.Start) → toBits binary32 (c .args .x) < 2 ^ 31
 small c = below-sign (c .args .x) (fit c) (c .pre .0)
 
 room : (c : tie.Start) → 150 < toBits binary32 (c .args .x) / 8388608 + c .args .places → toBits binary32 (c .args .x) / 8388608 + c .args .places - 150 ≤ 8
-room c h =
-    let x = c .args .x in
-    let t = toBits binary32 x in
-    let l = c .pre .1 in
-    let k = t / 8388608 + c .args .places - 150 in
-    omega (arith, scaled-room x (t % 2 ^ 23 + 2 ^ 23) (t / 2 ^ 23 - 1) (c .args .places) (high-value x (fit c) (c .pre .0) (omega arith)) 32 k (omega arith) (omega arith) (c .pre .2))
+room c h = omega (arith, bits-room (c .args .x) (fit c) (c .pre .0) (c .args .places) (c .pre .1) 32 (c .pre .2) (omega arith))
 
 float-to-bits-b : tie.Need-float-to-bits-b
 float-to-bits-b c = not-nan (c .args .x) (c .pre .0)
@@ -35,23 +28,10 @@ shl-result : tie.Need-shl-result
 shl-result c = omega (arith, room (c .before .before) (c .if2 .left))
 
 returns : tie.Need-returns
-returns c =
-    let s = c .before in
-    let x = s .args .x in
-    let t = toBits binary32 x in
-    let l = s .pre .1 in
-    ⊎-elim
-    (λ z. scaled-none x (t % 2 ^ 23) 0 (s .args .places) (low-value x (fit s) (s .pre .0) z) (omega arith) (omega arith))
-    (λ h. scaled-none x (t % 2 ^ 23 + 2 ^ 23) (t / 2 ^ 23 - 1) (s .args .places) (high-value x (fit s) (s .pre .0) h) (omega arith) (omega arith))
-    (eq-zero-or-pos (t / 2 ^ 23))
+returns c = let s = c .before in bits-none (s .args .x) (fit s) (s .pre .0) (s .args .places) (s .pre .1) (omega (arith, c .if1 .taken))
 
 returns-2 : tie.Need-returns-2
-returns-2 c =
-    let s = c .before .before in
-    let x = s .args .x in
-    let t = toBits binary32 x in
-    let l = s .pre .1 in
-    scaled-right x (t % 2 ^ 23 + 2 ^ 23) (t / 2 ^ 23 - 1) (s .args .places) (high-value x (fit s) (s .pre .0) (omega arith)) _ (omega arith)
+returns-2 c = let s = c .before .before in bits-right (s .args .x) (fit s) (s .pre .0) (s .args .places) (s .pre .1) (omega (arith, c .before .if1 .left)) (omega (arith, c .if2 .taken))
 
 returns-3 : tie.Need-returns-3
 returns-3 c =
