@@ -11,7 +11,7 @@ use Rattle.state.specs.declared.OptRgb.{OptRgb}
 use Rattle.state.specs.declared.OptName.{OptName}
 use Rattle.state.specs.declared.OptReset.{OptReset}
 use Rattle.state.specs.Mix.{mixPair}
-use Rattle.state.specs.Apply.{fadeAlpha, alphaToMul, byte, at, part, resetOf}
+use Rattle.state.specs.Apply.{fadeAlpha, alphaToMul, byte, pair, part, resetOf}
 
 -- by how much \fade multiplies
 abbrev pub fadeMul : ℕ → ℕ → ℕ → ℕ → ℕ → ℕ → ℕ → ℤ → Float
@@ -19,7 +19,7 @@ fadeMul w1 w2 w3 w4 w5 w6 w7 t = alphaToMul (fadeAlpha (byte w1) (byte w2) (byte
 
 -- the place that \move has come to
 abbrev pub movedAt : ℕ → ℕ → ℕ → ℕ → Float → OptPair
-movedAt w1 w2 w3 w4 k = OptPair.Some (mixPair (at (f w1) (f w2)) (at (f w3) (f w4)) k)
+movedAt w1 w2 w3 w4 k = OptPair.Some (mixPair (pair (f w1) (f w2)) (pair (f w3) (f w4)) k)
 
 abbrev pub rgbBy : ℕ → ℕ → ℕ → OptRgb
 rgbBy w1 w2 w3 = OptRgb.Some (record { red = byte w1; green = byte w2; blue = byte w3 })

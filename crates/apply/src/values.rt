@@ -4,7 +4,7 @@ ghost use Prim.Native.Nat.{min};
 ghost use lib.Ieee.{le};
 ghost use Rattle.scan.specs.Scan.{pick};
 ghost use Rattle.tag.specs.Decode.{f, z, flagOf, partOf};
-ghost use Rattle.state.specs.Apply.{byte as byteOf, at, orZero, withX, withY, axes, part, someByte, rectOf, numpad as numpadOf};
+ghost use Rattle.state.specs.Apply.{byte as byteOf, pair as pairOf, orZero, withX, withY, axes, part, someByte, rectOf, numpad as numpadOf};
 ghost use Rattle.apply.specs.Inner.{nameBy, rgbBy, resetBy};
 use state::ClipRect;
 use state::MaybeBool;
@@ -53,7 +53,7 @@ fn flag(w: u32) -> bool
 }
 
 pub fn pair(a: u32, b: u32) -> Pair
-    ensures { λ r. ⌜ r ≡ at (f a) (f b) ⌝ }
+    ensures { λ r. ⌜ r ≡ pairOf (f a) (f b) ⌝ }
 {
     let x = float::f32_of_word(a);
     let y = float::f32_of_word(b);
@@ -61,7 +61,7 @@ pub fn pair(a: u32, b: u32) -> Pair
 }
 
 pub fn some_pair(a: u32, b: u32) -> MaybePair
-    ensures { λ r. ⌜ r .is ≡ OptPair.Some (at (f a) (f b)) ⌝ }
+    ensures { λ r. ⌜ r .is ≡ OptPair.Some (pairOf (f a) (f b)) ⌝ }
 {
     let is = OptPair::Some(pair(a, b));
     MaybePair { is }

@@ -8,7 +8,6 @@ use denote.Ref.{RefT, now}
 use Rattle.scan.specs.Scan.{pick, inClass, spanTo, trimStart, trimEnd}
 use Rattle.scan.specs.declared.Class.the-variants.{Not}
 use Rattle.numeral.specs.Numeral.{wholeNumber}
-use Rattle.refusal.specs.Refusal.{numberOf}
 use Rattle.refusal.specs.declared.Checked.{Checked}
 use Rattle.refusal.specs.declared.Checked.the-variants.{Good, Bad}
 use Rattle.refusal.specs.Refusal.{textGround}
@@ -55,11 +54,6 @@ clipOf s = clipBy (textGround s) s
 -- the bytes that are handed back
 abbrev pub restOf : List ℕ → Clip → List ℕ
 restOf s c = between s (c .from) (c .to)
-
--- the ground's number, 0 for none
-abbrev pub clipGround : Checked → ℕ
-clipGround Good = 0
-clipGround (Bad r) = numberOf r
 
 -- 01: "hands back the rest of the argument itself": r is the rest of the text t, the caller's own bytes where they lie
 abbrev pub IsRest : RefT (List ℕ) → RefT (List ℕ) → Type 0

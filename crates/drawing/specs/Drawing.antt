@@ -36,8 +36,8 @@ f4 = fin false 1 (pos 2)
 abbrev pub f6 : Float
 f6 = fin false 3 (pos 1)
 
-abbrev pub at : Float → Float → Point
-at x y = record { x = x; y = y }
+abbrev pub pointAt : Float → Float → Point
+pointAt x y = record { x = x; y = y }
 
 -- what coordinates are multiplied by: 1 / 2 ^ (exponent - 1), at exponent 0 as at 1
 unfoldable pub scaleOf : ℕ → Float
@@ -46,7 +46,7 @@ scaleOf exponent = pick (eqb exponent 0) f1 (div binary32 f1 (ofInt binary32 (po
 
 unfoldable pub scaled : Float → Float → Float → Point
 unfolding mul
-scaled k x y = at (mul binary32 x k) (mul binary32 y k)
+scaled k x y = pointAt (mul binary32 x k) (mul binary32 y k)
 
 -- (a · wa + b · wb + c · wc) / 6, each operation rounded, in this order
 unfoldable pub weighed : Float → Float → Float → Float → Float → Float → Float
@@ -54,7 +54,7 @@ unfolding add mul div
 weighed a wa b wb c wc = div binary32 (add binary32 (add binary32 (mul binary32 a wa) (mul binary32 b wb)) (mul binary32 c wc)) f6
 
 abbrev pub bez : Point → Float → Point → Float → Point → Float → Point
-bez a wa b wb c wc = at (weighed (a .x) wa (b .x) wb (c .x) wc) (weighed (a .y) wa (b .y) wb (c .y) wc)
+bez a wa b wb c wc = pointAt (weighed (a .x) wa (b .x) wb (c .x) wc) (weighed (a .y) wa (b .y) wb (c .y) wc)
 
 -- ---- 01, Owned Rust values: "eight words a command: 1 move, 2 line, 3 cubic, 4 close, then up to six f32 bit patterns, then zeros"
 
@@ -257,7 +257,7 @@ walk k (suc n) pen (t ∷ ts) =
     u .path ++ walk k n (u .pen) (u .rest)
 
 abbrev pub start : Pen
-start = penOf (at f0 f0) false Idle
+start = penOf (pointAt f0 f0) false Idle
 
 -- the commands of a drawing
 abbrev pub draw : Float → List Token → List PathCommand

@@ -6,22 +6,25 @@ use Prim.Native.Nat.{ℕ, zero, suc, _-_, _≤_, _<_, min}
 use native.Mathlib.Omega.{arith}
 use lib.IntN.{ℤ}
 use Rattle.refusal.specs.Refusal.{mostPlaces}
+use Rattle.refusal.specs.Answer.{Stands}
 use Rattle.refusal.specs.declared.Checked.{Checked}
 use Rattle.refusal.specs.declared.Checked.the-variants.{Good, Bad}
 use Rattle.refusal.specs.declared.Refusal.{Refusal}
 use Rattle.refusal.specs.declared.Refusal.the-variants.{TableMalformed}
 use Rattle.tag.specs.Table.{placesOf}
-use Rattle.tag.specs.WellFormed.{first, excess, tableGround}
+use Rattle.tag.specs.WellFormed.{firstGround, excess, tableGround}
 use Rattle.tag.specs.Decode.{tagsOf}
 use Rattle.state.specs.declared.RenderState.{RenderState}
+use Rattle.state.specs.State.{identity}
 use Rattle.state.specs.Apply.{evaluateAt}
 use Rattle.table.specs.Ground.{timeGround, callGround}
 use Rattle.table.proofs.Slices.{length-records}
 use Rattle.table.proofs.Grounds.{table-found, good-fine}
 use Rattle.words.specs.Words.{stateWords}
 use Rattle.evaluate.specs.declared.Evaluated.{Evaluated}
-use Rattle.evaluate.specs.Inner.{tagsAt, isGood, told, wordsIf, AppliedAll}
-use Rattle.evaluate.specs.Evaluate.{evaluatedOr, evaluated, groundOf, stateAfter, InWords}
+use Rattle.evaluators.specs.Inner.{tagsAt, told, wordsIf, AppliedAll}
+use Rattle.evaluate.specs.Inner.{isGood}
+use Rattle.evaluate.specs.Evaluate.{evaluatedOr, evaluated, groundOf, stateOf, StateStands, stateAfter, InWords}
 
 module _ {t dur : ℤ} {ws : List ℕ} {write : Bool} {v u : List ℕ} {r : RenderState} {x : ℕ} (a : AppliedAll t dur ws write v r x u) where
   -- a record is at fault
@@ -34,9 +37,9 @@ module _ {t dur : ℤ} {ws : List ℕ} {write : Bool} {v u : List ℕ} {r : Rend
       go (suc n) e =
           let b : x - 1 ≡ n = omega arith in
           let k : Bad (TableMalformed n) ≡ tableGround ws = table-found ws (min (placesOf ws) mostPlaces) (Bad (TableMalformed n)) refl (rw e at (a .ground)) in
-          rw b (ap (λ (c : Checked). evaluatedOr (first c (timeGround t dur)) (evaluateAt t dur (tagsOf ws))) k)
+          rw b (ap (λ (c : Checked). evaluatedOr (firstGround c (timeGround t dur)) (evaluateAt t dur (tagsOf ws))) k)
 
-  module _ (z : x ≤ 0) {c : Checked} (f : c ≡ first (excess ws) (timeGround t dur)) where
+  module _ (z : x ≤ 0) {c : Checked} (f : c ≡ firstGround (excess ws) (timeGround t dur)) where
     none : told x ≡ Good
     none = let e : x ≡ 0 = omega arith in rw e refl
 
@@ -45,7 +48,7 @@ module _ {t dur : ℤ} {ws : List ℕ} {write : Bool} {v u : List ℕ} {r : Rend
     unfolding callGround
     left =
         let k : excess ws ≡ tableGround ws = table-found ws (min (placesOf ws) mostPlaces) Good refl (sym none ∙ a .ground) in
-        f ∙ ap (λ (y : Checked). first y (timeGround t dur)) k
+        f ∙ ap (λ (y : Checked). firstGround y (timeGround t dur)) k
 
     pub late : (b : Refusal) → c ≡ Bad b → Evaluated.Refused b ≡ evaluated ws t dur
     unfolding evaluated
@@ -57,6 +60,16 @@ module _ {t dur : ℤ} {ws : List ℕ} {write : Bool} {v u : List ℕ} {r : Rend
         let k : Good ≡ callGround ws t dur = sym y ∙ left in
         let p : min (placesOf ws) mostPlaces ≡ placesOf ws = omega (arith, good-fine ws t dur (sym k) .formed .few, length-records ws) in
         ap Evaluated.State (rw p at (a .state none)) ∙ ap (λ (g : Checked). evaluatedOr g (evaluateAt t dur (tagsOf ws))) k
+
+-- ---- what stands for the answer
+
+stands : (c : Checked) (st : RenderState) → Stands c identity st (groundOf (evaluatedOr c st)) (stateOf (evaluatedOr c st))
+stands Good st = record { ground = refl; value = refl }
+stands (Bad r) st = record { ground = refl; value = refl }
+
+pub told-by-value : (ws : List ℕ) (t dur : ℤ) {r : Evaluated} → r ≡ evaluated ws t dur → (r ≡ evaluated ws t dur) × StateStands ws t dur r
+unfolding evaluated
+told-by-value ws t dur e = (e, rw e (stands (callGround ws t dur) (evaluateAt t dur (tagsOf ws))))
 
 -- ---- as words
 
@@ -75,7 +88,7 @@ module _ {t dur : ℤ} {ws : List ℕ} {write : Bool} {v u : List ℕ} {r : Rend
       unwritten true (suc n) p = refl
       unwritten false (suc n) p = refl
 
-  pub late-in-words : x ≤ 0 → (c : Checked) → c ≡ first (excess ws) (timeGround t dur) → write ≡ isGood c → InWords ws t dur v c u
+  pub late-in-words : x ≤ 0 → (c : Checked) → c ≡ firstGround (excess ws) (timeGround t dur) → write ≡ isGood c → InWords ws t dur v c u
   late-in-words z Good f w =
       let e : x ≡ 0 = omega arith in
       written (stated a z f refl) (rw (w, e) at (a .words))

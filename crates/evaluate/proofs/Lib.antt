@@ -1,3 +1,1 @@
-pub mod Turns
-pub mod Checking
 pub mod Ends

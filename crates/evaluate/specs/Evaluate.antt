@@ -3,7 +3,7 @@ use mathlib.Core.Path.{_≡_}
 use mathlib.Core.List.{List}
 use Prim.Native.Nat.{ℕ}
 use lib.IntN.{ℤ}
-use Rattle.refusal.specs.Refusal.{numberOf, placeOf}
+use Rattle.refusal.specs.Answer.{Stands}
 use Rattle.refusal.specs.declared.Checked.{Checked}
 use Rattle.refusal.specs.declared.Checked.the-variants.{Good, Bad}
 use Rattle.tag.specs.Decode.{tagsOf}
@@ -23,24 +23,20 @@ unfoldable pub evaluated : List ℕ → ℤ → ℤ → Evaluated
 unfolding evaluateAt
 evaluated ws t dur = evaluatedOr (callGround ws t dur) (evaluateAt t dur (tagsOf ws))
 
--- the answer's ground, 0 for none; its place; the state, `identity` beside a refusal
-abbrev pub groundNumber : Evaluated → ℕ
-groundNumber (Evaluated.State st) = 0
-groundNumber (Evaluated.Refused r) = numberOf r
-
-abbrev pub groundPlace : Evaluated → ℕ
-groundPlace (Evaluated.State st) = 0
-groundPlace (Evaluated.Refused r) = placeOf r
+-- the answer's ground, and the state, `identity` beside a refusal
+abbrev pub groundOf : Evaluated → Checked
+groundOf (Evaluated.State st) = Good
+groundOf (Evaluated.Refused r) = Bad r
 
 abbrev pub stateOf : Evaluated → RenderState
 stateOf (Evaluated.State st) = st
 stateOf (Evaluated.Refused r) = identity
 
--- ---- as words
+-- what stands for the answer to a table, an instant and a duration
+abbrev pub StateStands : List ℕ → ℤ → ℤ → Evaluated → Type 0
+StateStands ws t dur r = Stands (callGround ws t dur) identity (evaluateAt t dur (tagsOf ws)) (groundOf r) (stateOf r)
 
-abbrev pub groundOf : Evaluated → Checked
-groundOf (Evaluated.State st) = Good
-groundOf (Evaluated.Refused r) = Bad r
+-- ---- as words
 
 -- the words of the state; on a refusal every old word
 abbrev pub stateAfter : Evaluated → List ℕ → List ℕ

@@ -10,7 +10,7 @@ use lib.Dec.{lit<, lit≤}
 use lib.IntN.{ℤ}
 use Rattle.scan.specs.Scan.{pick}
 use Rattle.scan.proofs.Laws.{picked}
-use Rattle.refusal.specs.Refusal.{placeOf, mostBytes}
+use Rattle.refusal.specs.Refusal.{numberOf, placeOf, mostBytes}
 use Rattle.refusal.specs.declared.Checked.{Checked}
 use Rattle.refusal.specs.declared.Checked.the-variants.{Good, Bad}
 use Rattle.tag.specs.Decode.{tagsOf}
@@ -22,12 +22,12 @@ use Rattle.evaluate.specs.declared.Evaluated.{Evaluated}
 use Rattle.evaluate.specs.Evaluate.{evaluatedOr, evaluated}
 use Rattle.reset.specs.declared.ResetAt.{ResetAt}
 use Rattle.reset.specs.Reset.{resetIn}
-use Rattle.clips.specs.Clip.{clipGround}
 use Rattle.style.specs.Style.{textsGround, named, refused, unless}
 use Rattle.style.specs.declared.Place.{Place}
 use Rattle.style.proofs.Places.{Short, texts-short, Fits, named-fits}
-use Rattle.hannuvel.specs.Packed.{packed, valueOf, Unpacks}
-use Rattle.hannuvel.specs.InForce.{styleOf, styleAt, styleExtra, styleValue, StyleCall}
+use Rattle.hannuvel.specs.Packed.{wordValue, Says}
+use Rattle.hannuvel.specs.InForce.{styleOf, styleAt, StyleCall}
+use Rattle.hannuvel.specs.Inner.{packed, wordOf, styleWord}
 use Rattle.hannuvel.proofs.Unpacked.{unpacked, plain, Low, call-low}
 
 -- the style needs no more of the state than what \r has left
@@ -68,31 +68,31 @@ answer-fits ws t dur block own =
     (λ (s : Short block own Good). evaluated-fits (callGround ws t dur) (evaluateAt t dur (tagsOf ws)) block own (call-low ws t dur) s)
 
 -- so nothing of it is cut off
-abbrev Whole : Checked → Place → ℕ → Type 0
-Whole c p w = Unpacks w (clipGround c) (styleExtra c p) (styleValue c (p .from) (p .to - p .from))
-
-style-whole : (c : Checked) (p : Place) → Fits c p → Whole c p (packed (clipGround c) (styleExtra c p) (styleValue c (p .from % 2 ^ 16) ((p .to - p .from) % 2 ^ 16)))
+style-whole : (c : Checked) (p : Place) → Fits c p → Says (wordOf c (pick (p .«of_block») 1 0) (p .from % 2 ^ 16 * 2 ^ 16 + (p .to - p .from) % 2 ^ 16)) c (pick (p .«of_block») 1 0) (p .from * 2 ^ 16 + (p .to - p .from))
 style-whole Good p f =
     let low : p .from < 2 ^ 16 = lt-of-le-of-lt (le-trans (f .0) (f .1)) (lit< tt) in
     let high : p .to < 2 ^ 16 = lt-of-le-of-lt (f .1) (lit< tt) in
     let short : p .to - p .from < 2 ^ 16 = omega arith in
     rw (mod-eq-of-lt low, mod-eq-of-lt short)
     (unpacked 0 (pick (p .«of_block») 1 0) (p .from * 2 ^ 16 + (p .to - p .from)) (bit-small (p .«of_block»)) (two-small (p .from) (p .to - p .from) low short))
-style-whole (Bad r) p f = plain (clipGround (Bad r)) (placeOf r) f
+style-whole (Bad r) p f = plain (numberOf r) (placeOf r) f
 
-module _ {ws : List ℕ} {t dur : ℤ} {block own : List ℕ} {r : ℕ} (c : StyleCall ws t dur block own r) where
+module _ (ws : List ℕ) (t dur : ℤ) (block own : List ℕ) {r : ℕ} (w : r ≡ styleWord (styleAt ws t dur block own)) where
   abbrev answer : Place
   answer = styleAt ws t dur block own
 
-  pub style-unpacked : Unpacks r (clipGround (answer .checked)) (styleExtra (answer .checked) answer) (styleValue (answer .checked) (answer .from) (answer .to - answer .from))
-  style-unpacked = rw (c .answered) (style-whole (answer .checked) answer (answer-fits ws t dur block own))
+  said : Says r (answer .checked) (pick (answer .«of_block») 1 0) (answer .from * 2 ^ 16 + (answer .to - answer .from))
+  said = rw w (style-whole (answer .checked) answer (answer-fits ws t dur block own))
 
   -- value >> 16 is the offset and value & 0xFFFF the length
-  pub part-back : answer .checked ≡ Good → (valueOf r / 2 ^ 16 ≡ answer .from) × (valueOf r % 2 ^ 16 ≡ answer .to - answer .from)
+  part-back : answer .checked ≡ Good → (wordValue r / 2 ^ 16 ≡ answer .from) × (wordValue r % 2 ^ 16 ≡ answer .to - answer .from)
   part-back e =
       let f : (answer .from ≤ answer .to) × (answer .to ≤ mostBytes) = rw e at (answer-fits ws t dur block own) in
       let high : answer .to < 2 ^ 16 = lt-of-le-of-lt (f .1) (lit< tt) in
       let short : answer .to - answer .from < 2 ^ 16 = omega arith in
-      let v : valueOf r ≡ answer .from * 2 ^ 16 + (answer .to - answer .from) = rw e at (style-unpacked .value) in
+      let v : wordValue r ≡ answer .from * 2 ^ 16 + (answer .to - answer .from) = rw e at (said .value) in
       let some : 0 < 2 ^ 16 = lit< tt in
       (rw (v, mul-add-div-right some (answer .from) (answer .to - answer .from), div-eq-of-lt short, add-zero), rw (v, mul-add-mod-self-right (answer .from) (2 ^ 16) (answer .to - answer .from), mod-eq-of-lt short))
+
+  pub style-says : StyleCall ws t dur block own r
+  style-says = record { answered = said; part = part-back }

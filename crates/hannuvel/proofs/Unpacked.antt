@@ -1,5 +1,5 @@
--- Of what each call returns, the three functions of include/hannuvel.h give back the ground, the extra and the value of the answer: nothing is cut off.
-use mathlib.Core.Path.{_≡_, refl, ap, _∙_}
+-- Of what each call returns, the three functions of include/hannuvel.h give back the ground, the extra and the value whole: nothing is cut off.
+use mathlib.Core.Path.{_≡_, refl, sym, ap, _∙_}
 use mathlib.Core.List.{List}
 use Prim.Native.Nat.{ℕ, _+_, _*_, _/_, _%_, _^_, _≤_, _<_}
 use native.Mathlib.Omega.{arith}
@@ -17,15 +17,14 @@ use Rattle.refusal.specs.declared.Refusal.the-variants.{TimeOutOfRange}
 use Rattle.refusal.specs.declared.Checked.{Checked}
 use Rattle.refusal.specs.declared.Checked.the-variants.{Good, Bad}
 use Rattle.refusal.specs.declared.Answer.{Answer}
-use Rattle.refusal.specs.Answer.{groundNumber, answerValue}
+use Rattle.refusal.specs.Answer.{numberIn, placeIn, groundOf, answerValue}
 use Rattle.refusal.proofs.Laws.{Few, Within, value-small}
-use Rattle.read.specs.Reading.{wholeText, lessBraces, answer}
-use Rattle.tag.specs.Table.{placesOf}
+use Rattle.read.specs.Reading.{answer}
 use Rattle.tag.specs.declared.Record.{Record}
-use Rattle.tag.specs.WellFormed.{recordsOf, holds, first, tableGround, AtFault, range, deep, past, later, inner, behind}
+use Rattle.tag.specs.WellFormed.{recordsOf, holds, firstGround, tableGround, AtFault, range, deep, past, later, inner, behind}
 use Rattle.tag.specs.Decode.{tagsOf}
 use Rattle.tag.proofs.Formed.{Named, record-at-fault, too-many, broken-last, ground-first}
-use Rattle.table.specs.Ground.{inTime, timeGround, callGround}
+use Rattle.table.specs.Ground.{inTime, timeGround, Fine, callGround}
 use Rattle.state.specs.declared.RenderState.{RenderState}
 use Rattle.state.specs.Apply.{evaluateAt}
 use Rattle.evaluate.specs.Evaluate as Evaluate
@@ -34,18 +33,19 @@ use Rattle.marks.specs.declared.Mark.{Mark}
 use Rattle.marks.specs.declared.Marked.{Marked}
 use Rattle.marks.specs.Marks.{nextMark}
 use Rattle.marks.specs.Answer as Marks
-use Rattle.marks.specs.Answer.{markedOr, marked, markOf}
+use Rattle.marks.specs.Answer.{markedOr, marked, markOf, Exact}
 use Rattle.read.specs.declared.Span.{Span}
-use Rattle.read.proofs.Parts.{SpanIn, whole-in, braces-in}
+use Rattle.read.proofs.Parts.{SpanIn}
 use Rattle.read.proofs.Places.{few-read, ground-within}
 use Rattle.drawing.specs.Answer as Drawing
 use Rattle.drawing.proofs.Places as Drawn
 use Rattle.drawing.proofs.Places.{few-drawn}
 use Rattle.clips.specs.declared.Clip.{Clip}
-use Rattle.clips.specs.Clip.{clipGround, clipOf}
+use Rattle.clips.specs.Clip.{clipOf}
 use Rattle.clips.proofs.Places as Clips
-use Rattle.hannuvel.specs.Packed.{packed, valueOf, Unpacks, answerWord, ReadingCall, DrawingCall, clipExtra, clipValue, clipWord}
-use Rattle.hannuvel.specs.Instant.{EvaluatingCall, markExtra, markValue, markedWord, SignedMark, MarkingCall}
+use Rattle.hannuvel.specs.Packed.{Unpacks, Says, SaysAnswer, ClipCall}
+use Rattle.hannuvel.specs.Instant.{markExtra, markValue, Names, MarkingCall}
+use Rattle.hannuvel.specs.Inner.{packed, wordOf, answerWord, clipWord, markedWord, SignedMark}
 use Rattle.hannuvel.proofs.Instant.{signed-fits, word-small}
 
 -- ---- three numbers in one, the second below b and the last below a
@@ -82,42 +82,32 @@ unpacked g e v small low =
 pub plain : (g v : ℕ) → v ≤ mostBytes → Unpacks (packed g 0 v) g 0 v
 plain g v h = unpacked g 0 v (lit< tt) (lt-of-le-of-lt h (lit< tt))
 
+-- a ground whose place is at most 12,288, or an extra and a value that fit
+pub says : (c : Checked) (e v : ℕ) → placeIn c ≤ mostBytes → (c ≡ Good → (e < 2 ^ 16) × (v < 2 ^ 32)) → Says (wordOf c e v) c e v
+says Good e v l h = unpacked 0 e v (h refl .0) (h refl .1)
+says (Bad r) e v l h = plain (numberOf r) (placeOf r) l
+
+-- ---- the calls that fill a table
+
 -- an answer that counts at most 1,024, its place or count within the text s
-answer-unpacked : (s : List ℕ) (a : Answer) → Few a → Within s a → Unpacks (answerWord a) (groundNumber a) 0 (answerValue a)
-answer-unpacked s a f h = plain (groundNumber a) (answerValue a) (value-small s a f h)
+answer-says : (s : List ℕ) (a : Answer) {r : ℕ} → Few a → Within s a → r ≡ answerWord a → SaysAnswer r a
+answer-says s a f h e = rw e (plain (numberIn (groundOf a)) (answerValue a) (value-small s a f h))
 
--- ---- the reading calls
+-- both reading calls
+pub reading-says : (s : List ℕ) (x : Span) (places : ℕ) {r : ℕ} → SpanIn s x → r ≡ answerWord (answer s x places) → SaysAnswer r (answer s x places)
+reading-says s x places inside e = answer-says s (answer s x places) (few-read s x places) (ground-within s x places inside) e
 
-module _ (s : List ℕ) (x : Span) (places : ℕ) (inside : SpanIn s x) where
-  pub reading-unpacked : let a = answer s x places in Unpacks (answerWord a) (groundNumber a) 0 (answerValue a)
-  reading-unpacked = answer-unpacked s (answer s x places) (few-read s x places) (ground-within s x places inside)
-
-module _ {s t u : List ℕ} {r : ℕ} where
-  -- `hannuvel_parse_overrides`
-  pub overrides-unpacked : ReadingCall s (wholeText s) t r u → let a = answer s (wholeText s) (placesOf t) in Unpacks r (groundNumber a) 0 (answerValue a)
-  overrides-unpacked c = rw (c .answered) (reading-unpacked s (wholeText s) (placesOf t) (whole-in s))
-
-  -- `hannuvel_parse_raw_block`
-  pub raw-block-unpacked : ReadingCall s (lessBraces s) t r u → let a = answer s (lessBraces s) (placesOf t) in Unpacks r (groundNumber a) 0 (answerValue a)
-  raw-block-unpacked c = rw (c .answered) (reading-unpacked s (lessBraces s) (placesOf t) (braces-in s))
-
--- ---- drawings
-
--- `hannuvel_parse_drawing`
-pub drawing-unpacked : {s t u : List ℕ} {exponent r : ℕ} → DrawingCall s exponent t r u → let a = Drawing.answer s exponent (Drawing.placesOf t) in Unpacks r (groundNumber a) 0 (answerValue a)
-drawing-unpacked {s} {t} {u} {exponent} {r} c =
-    let places = Drawing.placesOf t in
-    rw (c .answered) (answer-unpacked s (Drawing.answer s exponent places) (few-drawn s exponent places) (Drawn.ground-within s exponent places))
+pub drawing-says : (s : List ℕ) (exponent places : ℕ) {r : ℕ} → r ≡ answerWord (Drawing.answer s exponent places) → SaysAnswer r (Drawing.answer s exponent places)
+drawing-says s exponent places e = answer-says s (Drawing.answer s exponent places) (few-drawn s exponent places) (Drawn.ground-within s exponent places) e
 
 -- ---- clip arguments
 
-clip-small : (c : Clip) (k : Checked) → Clips.Within k c → Unpacks (packed (clipGround k) (clipExtra k c) (clipValue k c)) (clipGround k) (clipExtra k c) (clipValue k c)
+clip-small : (c : Clip) (k : Checked) → Clips.Within k c → Says (wordOf k (c .from) (c .scale)) k (c .from) (c .scale)
 clip-small c Good h = unpacked 0 (c .from) (c .scale) (lt-of-le-of-lt (h .0) (lit< tt)) (h .1)
-clip-small c (Bad r) h = plain (clipGround (Bad r)) (clipValue (Bad r) c) h
+clip-small c (Bad r) h = plain (numberOf r) (placeOf r) h
 
--- `hannuvel_split_clip_arg`
-pub clip-unpacked : (s : List ℕ) (r : ℕ) → r ≡ clipWord (clipOf s) → let c = clipOf s in Unpacks r (clipGround (c .checked)) (clipExtra (c .checked) c) (clipValue (c .checked) c)
-clip-unpacked s r e = rw e (clip-small (clipOf s) (clipOf s .checked) (Clips.clip-within s))
+pub clip-says : (s : List ℕ) {r : ℕ} → r ≡ clipWord (clipOf s) → ClipCall s r
+clip-says s e = rw e (clip-small (clipOf s) (clipOf s .checked) (Clips.clip-within s))
 
 -- ---- tables
 
@@ -143,7 +133,7 @@ pub table-low : (ws : List ℕ) (c : Checked) → tableGround ws ≡ c → Low c
 table-low ws Good e = tt
 table-low ws (Bad r) e = named-place ws (ground-first ws r e)
 
-first-low : (a b : Checked) → Low a → Low b → Low (first a b)
+first-low : (a b : Checked) → Low a → Low b → Low (firstGround a b)
 first-low Good b h k = k
 first-low (Bad r) b h k = h
 
@@ -151,28 +141,40 @@ pub call-low : (ws : List ℕ) (t dur : ℤ) → Low (callGround ws t dur)
 unfolding callGround timeGround
 call-low ws t dur = first-low (tableGround ws) (timeGround t dur) (table-low ws (tableGround ws) refl) (picked Low (both (inTime t) (inTime dur)) Good (Bad TimeOutOfRange) tt (lit≤ tt))
 
-evaluated-low : (c : Checked) (st : RenderState) → Low c → Evaluate.groundPlace (evaluatedOr c st) ≤ mostBytes
-evaluated-low Good st h = lit≤ tt
-evaluated-low (Bad r) st h = le-trans h (lit≤ tt)
-
 -- `hannuvel_evaluate_at`
-pub evaluate-unpacked : {ws v u : List ℕ} {t dur : ℤ} {r : ℕ} → EvaluatingCall ws t dur v r u → let a = evaluated ws t dur in Unpacks r (Evaluate.groundNumber a) 0 (Evaluate.groundPlace a)
-unfolding evaluated
-evaluate-unpacked {ws} {v} {u} {t} {dur} {r} c =
-    let a = evaluated ws t dur in
-    rw (c .answered) (plain (Evaluate.groundNumber a) (Evaluate.groundPlace a) (evaluated-low (callGround ws t dur) (evaluateAt t dur (tagsOf ws)) (call-low ws t dur)))
+evaluated-ground : (c : Checked) (st : RenderState) → Evaluate.groundOf (evaluatedOr c st) ≡ c
+evaluated-ground Good st = refl
+evaluated-ground (Bad r) st = refl
 
-marked-unpacked : (c : Checked) (m : Mark) → Low c → SignedMark (markOf (markedOr c m)) → let a = markedOr c m in Unpacks (markedWord a) (Marks.groundNumber a) (markExtra a) (markValue a)
-marked-unpacked Good Mark.None l s = unpacked 0 1 0 (lit< tt) (lit< tt)
-marked-unpacked Good (Mark.At a) l s = unpacked 0 0 (toWord a) (lit< tt) (word-small a s)
-marked-unpacked (Bad r) m l s = plain (numberOf r) (placeOf r) (le-trans l (lit≤ tt))
+low-place : (c : Checked) → Low c → placeIn c ≤ mostBytes
+low-place Good l = lit≤ tt
+low-place (Bad r) l = le-trans l (lit≤ tt)
 
-module _ {ws : List ℕ} {t dur : ℤ} {r : ℕ} (c : MarkingCall ws t dur r) where
-  -- `hannuvel_next_mark`
-  pub next-mark-unpacked : let a = marked ws t dur in Unpacks r (Marks.groundNumber a) (markExtra a) (markValue a)
+module _ (ws : List ℕ) (t dur : ℤ) {r : ℕ} where
+  pub evaluated-says : {c : Checked} → c ≡ Evaluate.groundOf (evaluated ws t dur) → r ≡ wordOf c 0 0 → Says r (Evaluate.groundOf (evaluated ws t dur)) 0 0
+  unfolding evaluated
+  evaluated-says e w =
+      let k = e ∙ evaluated-ground (callGround ws t dur) (evaluateAt t dur (tagsOf ws)) in
+      rw (w, ← e, k) (says (callGround ws t dur) 0 0 (low-place (callGround ws t dur) (call-low ws t dur)) (λ g. (lit< tt, lit< tt)))
+
+-- `hannuvel_next_mark`
+marked-says : (c : Checked) (m : Mark) → Low c → SignedMark (markOf (markedOr c m)) → let a = markedOr c m in Says (markedWord a) (Marks.groundOf a) (markExtra (markOf a)) (markValue (markOf a))
+marked-says Good Mark.None l s = unpacked 0 1 0 (lit< tt) (lit< tt)
+marked-says Good (Mark.At a) l s = unpacked 0 0 (toWord a) (lit< tt) (word-small a s)
+marked-says (Bad r) m l s = plain (numberOf r) (placeOf r) (le-trans l (lit≤ tt))
+
+-- a mark that is an i32 is named whole
+names : {r : ℕ} (m : Mark) → SignedMark m → Says r Good (markExtra m) (markValue m) → Names r m
+names Mark.None s u = u
+names (Mark.At a) s u = (u, ap ofWord (u .value) ∙ ofWord-toWord a (signed-fits a s))
+
+module _ (ws : List ℕ) (t dur : ℤ) {r : ℕ} {m : Marked} (e : m ≡ marked ws t dur) (w : r ≡ markedWord m) (s : SignedMark (markOf m)) where
+  said : Says r (Marks.groundOf (marked ws t dur)) (markExtra (markOf (marked ws t dur))) (markValue (markOf (marked ws t dur)))
   unfolding marked
-  next-mark-unpacked = rw (c .answered) (marked-unpacked (callGround ws t dur) (nextMark t dur (tagsOf ws)) (call-low ws t dur) (c .signed))
+  said = rw (w, e) (marked-says (callGround ws t dur) (nextMark t dur (tagsOf ws)) (call-low ws t dur) (rw e at s))
 
-  -- the value as an i32 is the mark
-  pub mark-back : (a : ℤ) → marked ws t dur ≡ Marked.Next (Mark.At a) → ofWord (valueOf r) ≡ a
-  mark-back a e = ap ofWord (next-mark-unpacked .value ∙ ap markValue e) ∙ ofWord-toWord a (signed-fits a (rw e at (c .signed)))
+  pub marking : (Fine ws t dur → Exact ws t dur m) → MarkingCall ws t dur r
+  marking x = record {
+    answered = said;
+    exact = λ f. let y = x f in record { mark = y .mark; names = names (y .mark) (rw (y .answer) at s) (rw (sym e ∙ y .answer) at said); earliest = y .earliest };
+  }

@@ -1,56 +1,49 @@
--- The calls that are given a table and an instant: their answers as one number, and the words of the state.
+-- The calls that are given a table and an instant: what their numbers say, and the words of the state.
 use mathlib.Core.Path.{_≡_}
 use mathlib.Core.List.{List}
-use Prim.Native.Nat.{ℕ, _^_, _<_}
-use lib.IntN.{ℤ, pos, negsuc}
-use Rattle.refusal.specs.Refusal.{placeOf}
-use Rattle.float.specs.Float.{toWord}
-use Rattle.evaluate.specs.Evaluate.{evaluated, groundNumber, groundPlace, stateAfter}
-use Rattle.evaluate.specs.declared.Evaluated.{Evaluated}
+use Prim.Native.Nat.{ℕ}
+use lib.IntN.{ℤ}
+use Rattle.float.specs.Float.{toWord, ofWord}
+use Rattle.tag.specs.Decode.{tagsOf}
+use Rattle.table.specs.Ground.{Fine}
+use Rattle.evaluate.specs.Evaluate.{evaluated, groundOf, stateAfter}
 use Rattle.marks.specs.Answer as Marks
 use Rattle.marks.specs.Answer.{marked, markOf}
+use Rattle.marks.specs.Marks.{Interval, marks, Earliest}
 use Rattle.marks.specs.declared.Mark.{Mark}
 use Rattle.marks.specs.declared.Marked.{Marked}
-use Rattle.hannuvel.specs.Packed.{packed}
+use Rattle.hannuvel.specs.Packed.{wordValue, Unpacks, Says}
 
 -- ---- `hannuvel_evaluate_at`
 
--- an answer has no value and no extra; for a ground its place
-abbrev pub evaluatedWord : Evaluated → ℕ
-evaluatedWord a = packed (groundNumber a) 0 (groundPlace a)
-
--- what the call says: the number r, and the lent words v before and u after
+-- what the call says: the number r, which has no extra and no value, and the lent words v before and u after
 pub record EvaluatingCall (ws : List ℕ) (t dur : ℤ) (v : List ℕ) (r : ℕ) (u : List ℕ) : Type 0 where
-  pub answered : r ≡ evaluatedWord (evaluated ws t dur)
+  pub answered : Says r (groundOf (evaluated ws t dur)) 0 0
   pub state : u ≡ stateAfter (evaluated ws t dur) v
 
 -- ---- `hannuvel_next_mark`
 
--- 1 where there is no mark
-abbrev pub markExtra : Marked → ℕ
-markExtra (Marked.Next Mark.None) = 1
-markExtra (Marked.Next (Mark.At a)) = 0
-markExtra (Marked.Refused r) = 0
+-- the extra, 1 where there is no mark, and the value, the mark in two's complement
+abbrev pub markExtra : Mark → ℕ
+markExtra Mark.None = 1
+markExtra (Mark.At a) = 0
 
--- the mark in two's complement; for a ground its place
-abbrev pub markValue : Marked → ℕ
-markValue (Marked.Next Mark.None) = 0
-markValue (Marked.Next (Mark.At a)) = toWord a
-markValue (Marked.Refused r) = placeOf r
+abbrev pub markValue : Mark → ℕ
+markValue Mark.None = 0
+markValue (Mark.At a) = toWord a
 
-abbrev pub markedWord : Marked → ℕ
-markedWord a = packed (Marks.groundNumber a) (markExtra a) (markValue a)
+-- that r names the mark m: its value as an i32 is the mark
+abbrev pub Names : ℕ → Mark → Type 0
+Names r Mark.None = Unpacks r 0 1 0
+Names r (Mark.At a) = Unpacks r 0 0 (toWord a) × (ofWord (wordValue r) ≡ a)
 
--- an i32
-abbrev pub Signed : ℤ → Type 0
-Signed (pos n) = n < 2 ^ 31
-Signed (negsuc n) = n < 2 ^ 31
+-- that r names the earliest mark after t of those in l, or says that there is none
+pub record NamesEarliest (l : List Interval) (t : ℤ) (r : ℕ) : Type 0 where
+  pub mark : Mark
+  pub names : Names r mark
+  pub earliest : Earliest l t mark
 
-abbrev pub SignedMark : Mark → Type 0
-SignedMark Mark.None = Unit
-SignedMark (Mark.At a) = Signed a
-
--- what the call says: the number r, and that the mark is an i32, so that the value holds all of it
+-- what the call says: the number r, and on every well-formed table, both times being in range, the earliest later mark of its tags
 pub record MarkingCall (ws : List ℕ) (t dur : ℤ) (r : ℕ) : Type 0 where
-  pub answered : r ≡ markedWord (marked ws t dur)
-  pub signed : SignedMark (markOf (marked ws t dur))
+  pub answered : let m = marked ws t dur in Says r (Marks.groundOf m) (markExtra (markOf m)) (markValue (markOf m))
+  pub exact : Fine ws t dur → NamesEarliest (marks dur (tagsOf ws)) t r

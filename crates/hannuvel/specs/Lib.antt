@@ -2,3 +2,4 @@ pub mod Packed
 pub mod Instant
 pub mod InForce
 pub mod Karaoke
+pub mod Inner

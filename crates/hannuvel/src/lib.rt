@@ -1,14 +1,14 @@
 // The C interface, declared in include/hannuvel.h. A call answers one number: bits 48 to 63 the refusal's ground, 0 for none; bits 32 to 47 an extra; bits 0 to 31 the value, or the refusal's place or count.
 ghost use mathlib.Core.Path.{_≡_};
 ghost use Rattle.read.specs.Reading.{wholeText, lessBraces};
-ghost use Rattle.clips.specs.Clip.{clipOf};
 ghost use Rattle.marks.specs.Answer.{markOf};
-ghost use Rattle.hannuvel.specs.Packed.{refusalWord, answerWord, ReadingCall, DrawingCall, clipWord};
-ghost use Rattle.hannuvel.specs.Instant.{EvaluatingCall, MarkingCall, markedWord, SignedMark};
+ghost use Rattle.hannuvel.specs.Packed.{ReadingCall, DrawingCall, ClipCall};
+ghost use Rattle.hannuvel.specs.Instant.{EvaluatingCall, MarkingCall};
 ghost use Prim.Native.Nat.{_≤_};
 ghost use Rattle.scan.specs.Scan.{pick};
-ghost use Rattle.hannuvel.specs.InForce.{styleWord, StyleCall};
-ghost use Rattle.hannuvel.specs.Karaoke.{SpansCall, spanFrom, progressWord, ProgressCall};
+ghost use Rattle.hannuvel.specs.InForce.{StyleCall};
+ghost use Rattle.hannuvel.specs.Karaoke.{SpansCall, spanFrom, ProgressCall};
+ghost use Rattle.hannuvel.specs.Inner.{refusalWord, answerWord, clipWord, markedWord, SignedMark, progressWord, styleWord};
 
 fn packed_refusal(r: refusal::Refusal) -> u64
     ensures { λ w. ⌜ w ≡ refusalWord r ⌝ }
@@ -64,7 +64,7 @@ fn packed_clip(c: clips::Clip) -> u64
 // A clip argument. The value is the scale, the extra the offset at which the rest of the argument begins.
 #[no_mangle]
 pub extern "C" fn hannuvel_split_clip_arg(text: &[u8]) -> u64
-    ensures { λ r. ⌜ r ≡ clipWord (clipOf (now (text .entry))) ⌝ }
+    ensures { λ r. ⌜ ClipCall (now (text .entry)) r ⌝ }
 {
     packed_clip(clips::clip_at(text))
 }

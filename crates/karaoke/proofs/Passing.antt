@@ -15,6 +15,8 @@ use borrow.Author.Tests.{le-leb, lt-leb, le-ltb, leb-false}
 use Rattle.scan.specs.Scan.{pick, both, either}
 use Rattle.state.specs.Mix.{quotient}
 use Rattle.ramp.proofs.Ints.{dist-is}
+use Rattle.float.specs.Float.{zero}
+use Rattle.refusal.specs.Answer.{Stands}
 use Rattle.refusal.specs.declared.Refusal.{Refusal}
 use Rattle.refusal.specs.declared.Refusal.the-variants.{TimeOutOfRange}
 use Rattle.refusal.specs.declared.Checked.{Checked}
@@ -22,7 +24,9 @@ use Rattle.refusal.specs.declared.Checked.the-variants.{Good, Bad}
 use Rattle.table.specs.Ground.{inTime, timeGround}
 use Rattle.karaoke.specs.declared.KaraokeSpan.{KaraokeSpan}
 use Rattle.karaoke.specs.declared.Progressed.{Progressed}
-use Rattle.karaoke.specs.Progress.{whole, progressIn, progressed}
+use Rattle.karaoke.specs.Karaoke.{mostMs}
+use Rattle.karaoke.specs.Progress.{whole, progressIn, instantGround, progressedOr, progressed, groundOf, progressOf, ProgressStands, InUnit}
+use Rattle.karaoke.proofs.Unit.{in-unit}
 
 -- before the line begins
 pub before-all : (start end : ℕ) (t : ℤ) → ltZ t (pos 0) ≡ true → ofBits binary32 0 ≡ progressIn (pos start) (pos end) t
@@ -69,18 +73,7 @@ module _ (start end n : ℕ) where
 
 -- ---- the call
 
-bad-good : {r : Refusal} → Bad r ≡ Good → ⊥
-bad-good e = let z : _≡_ {A = ℕ} 0 1 = cc in omega arith
-
-abbrev refusedBy : Checked → Progressed
-refusedBy (Bad r) = Progressed.Refused r
-refusedBy Good = Progressed.Refused TimeOutOfRange
-
--- ground 6 of an instant alone
-abbrev alone : ℤ → Checked
-alone t = pick (inTime t) Good (Bad TimeOutOfRange)
-
-twice : (t : ℤ) → timeGround t t ≡ alone t
+twice : (t : ℤ) → timeGround t t ≡ instantGround t
 unfolding timeGround
 twice t = go (inTime t)
   where
@@ -89,21 +82,23 @@ twice t = go (inTime t)
     go false = refl
 
 module _ (s : KaraokeSpan) (t : ℤ) (f : SFits w32 t) {c : Checked} (e : c ≡ timeGround (toZ w32 (ofZ w32 t)) (toZ w32 (ofZ w32 t))) where
-  found : c ≡ alone t
+  found : c ≡ instantGround t
   found = (rw (toZ-ofZ f) at e) ∙ twice t
 
   pub refused : {r : Refusal} → c ≡ Bad r → Progressed.Refused r ≡ progressed s t
   unfolding progressed
-  refused {r} k = go (inTime t) (sym k ∙ found)
-    where
-      go : (b : Bool) → Bad r ≡ pick b Good (Bad TimeOutOfRange) → Progressed.Refused r ≡ pick b (Progressed.At (progressIn (whole (s .«start_ms»)) (whole (s .«end_ms»)) t)) (Progressed.Refused TimeOutOfRange)
-      go true q = absurd (bad-good q)
-      go false q = ap refusedBy q
+  refused k = ap (λ (b : Checked). progressedOr b (progressIn (whole (s .«start_ms»)) (whole (s .«end_ms»)) t)) (sym k ∙ found)
 
   pub passed : {x : Float} → c ≡ Good → x ≡ progressIn (whole (s .«start_ms»)) (whole (s .«end_ms»)) (toZ w32 (ofZ w32 t)) → Progressed.At x ≡ progressed s t
   unfolding progressed
-  passed {x} k h = go (inTime t) (sym k ∙ found)
-    where
-      go : (b : Bool) → Good ≡ pick b Good (Bad TimeOutOfRange) → Progressed.At x ≡ pick b (Progressed.At (progressIn (whole (s .«start_ms»)) (whole (s .«end_ms»)) t)) (Progressed.Refused TimeOutOfRange)
-      go true q = ap Progressed.At (rw (toZ-ofZ f) at h)
-      go false q = absurd (bad-good (sym q))
+  passed k h = ap Progressed.At (rw (toZ-ofZ f) at h) ∙ ap (λ (b : Checked). progressedOr b (progressIn (whole (s .«start_ms»)) (whole (s .«end_ms»)) t)) (sym k ∙ found)
+
+-- ---- what stands for the answer
+
+stands : (c : Checked) (x : Float) → Stands c zero x (groundOf (progressedOr c x)) (progressOf (progressedOr c x))
+stands Good x = record { ground = refl; value = refl }
+stands (Bad r) x = record { ground = refl; value = refl }
+
+pub told : (s : KaraokeSpan) (t : ℤ) {r : Progressed} → s .«end_ms» .0 ≤ mostMs → r ≡ progressed s t → (r ≡ progressed s t) × (ProgressStands s t r × InUnit (progressOf r))
+unfolding progressed
+told s t m e = (e, (rw e (stands (instantGround t) (progressIn (whole (s .«start_ms»)) (whole (s .«end_ms»)) t)), rw e (in-unit s t m)))

@@ -16,14 +16,13 @@ use borrow.Author.Tests.{le-leb, lt-leb, ne-eqb}
 use Rattle.scan.specs.Scan.{pick, either}
 use Rattle.scan.proofs.Laws.{le-or-lt, picked}
 use Rattle.float.specs.Float.{zero, one}
-use Rattle.refusal.specs.declared.Refusal.the-variants.{TimeOutOfRange}
-use Rattle.table.specs.Ground.{inTime}
+use Rattle.refusal.specs.declared.Checked.{Checked}
+use Rattle.refusal.specs.declared.Checked.the-variants.{Good, Bad}
 use Rattle.state.specs.Mix.{quotient, ofNat}
 use Rattle.ramp.proofs.Ints.{dist-is}
 use Rattle.karaoke.specs.declared.KaraokeSpan.{KaraokeSpan}
-use Rattle.karaoke.specs.declared.Progressed.{Progressed}
 use Rattle.karaoke.specs.Karaoke.{mostMs}
-use Rattle.karaoke.specs.Progress.{whole, progressIn, progressed, progressOf, InUnit}
+use Rattle.karaoke.specs.Progress.{whole, progressIn, instantGround, progressedOr, progressed, progressOf, InUnit}
 
 -- ---- a quotient of two rounded numbers
 
@@ -122,20 +121,17 @@ module _ (start end : ℕ) (m : end ≤ mostMs) where
 -- whatever the span and the instant, beside a refusal too
 pub in-unit : (s : KaraokeSpan) (t : ℤ) → s .«end_ms» .0 ≤ mostMs → InUnit (progressOf (progressed s t))
 unfolding progressed
-in-unit s t m = go (inTime t)
+in-unit s t m = go (instantGround t)
   where
-    go : (b : Bool) → InUnit (progressOf (pick b (Progressed.At (progressIn (whole (s .«start_ms»)) (whole (s .«end_ms»)) t)) (Progressed.Refused TimeOutOfRange)))
-    go true = unit-in (s .«start_ms» .0) (s .«end_ms» .0) m t
-    go false = unit-zero
+    go : (c : Checked) → InUnit (progressOf (progressedOr c (progressIn (whole (s .«start_ms»)) (whole (s .«end_ms»)) t)))
+    go Good = unit-in (s .«start_ms» .0) (s .«end_ms» .0) m t
+    go (Bad r) = unit-zero
 
 -- ---- and an f32
 
 pub progress-fits : (s : KaraokeSpan) (t : ℤ) → T (fits binary32 (progressOf (progressed s t)))
 unfolding progressed progressIn quotient fits
-progress-fits s t =
-    picked Fitting (inTime t) (Progressed.At (progressIn start end t)) (Progressed.Refused TimeOutOfRange)
-    (picked (λ x. T (fits binary32 x)) (leZ t start) zero _ tt (picked (λ x. T (fits binary32 x)) (either (leZ end t) (leZ end start)) one _ tt (div-fits binary32 (ofInt binary32 (t -ℤ start)) (ofInt binary32 (end -ℤ start)))))
-    tt
+progress-fits s t = go (instantGround t)
   where
     start : ℤ
     start = whole (s .«start_ms»)
@@ -143,5 +139,6 @@ progress-fits s t =
     end : ℤ
     end = whole (s .«end_ms»)
 
-    Fitting : Progressed → Type 0
-    Fitting p = T (fits binary32 (progressOf p))
+    go : (c : Checked) → T (fits binary32 (progressOf (progressedOr c (progressIn start end t))))
+    go Good = picked (λ x. T (fits binary32 x)) (leZ t start) zero _ tt (picked (λ x. T (fits binary32 x)) (either (leZ end t) (leZ end start)) one _ tt (div-fits binary32 (ofInt binary32 (t -ℤ start)) (ofInt binary32 (end -ℤ start))))
+    go (Bad r) = tt

@@ -6,7 +6,9 @@ use lib.Dec.{T}
 use lib.Ieee.{Float, le}
 use Rattle.scan.specs.Scan.{pick, either}
 use Rattle.float.specs.Float.{zero, one}
-use Rattle.refusal.specs.Refusal.{numberOf, placeOf}
+use Rattle.refusal.specs.Answer.{Stands}
+use Rattle.refusal.specs.declared.Checked.{Checked}
+use Rattle.refusal.specs.declared.Checked.the-variants.{Good, Bad}
 use Rattle.refusal.specs.declared.Refusal.the-variants.{TimeOutOfRange}
 use Rattle.table.specs.Ground.{inTime}
 use Rattle.state.specs.Mix.{quotient}
@@ -24,23 +26,31 @@ unfoldable pub progressIn : ℤ → ℤ → ℤ → Float
 unfolding quotient
 progressIn start end t = pick (leZ t start) zero (pick (either (leZ end t) (leZ end start)) one (quotient (t -ℤ start) (end -ℤ start)))
 
--- what the call answers
+-- ground 6 of an instant alone
+abbrev pub instantGround : ℤ → Checked
+instantGround t = pick (inTime t) Good (Bad TimeOutOfRange)
+
+abbrev pub progressedOr : Checked → Float → Progressed
+progressedOr (Bad r) x = Progressed.Refused r
+progressedOr Good x = Progressed.At x
+
+-- how much of the span lies behind the instant, unless that is at fault
 unfoldable pub progressed : KaraokeSpan → ℤ → Progressed
 unfolding progressIn
-progressed s t = pick (inTime t) (Progressed.At (progressIn (whole (s .«start_ms»)) (whole (s .«end_ms»)) t)) (Progressed.Refused TimeOutOfRange)
+progressed s t = progressedOr (instantGround t) (progressIn (whole (s .«start_ms»)) (whole (s .«end_ms»)) t)
 
--- the answer's ground, 0 for none; its place; the progress, 0 beside a refusal
-abbrev pub groundNumber : Progressed → ℕ
-groundNumber (Progressed.At x) = 0
-groundNumber (Progressed.Refused r) = numberOf r
-
-abbrev pub groundPlace : Progressed → ℕ
-groundPlace (Progressed.At x) = 0
-groundPlace (Progressed.Refused r) = placeOf r
+-- the answer's ground, and the progress, 0 beside a refusal
+abbrev pub groundOf : Progressed → Checked
+groundOf (Progressed.At x) = Good
+groundOf (Progressed.Refused r) = Bad r
 
 abbrev pub progressOf : Progressed → Float
 progressOf (Progressed.At x) = x
 progressOf (Progressed.Refused r) = zero
+
+-- what stands for the answer to a span and an instant
+abbrev pub ProgressStands : KaraokeSpan → ℤ → Progressed → Type 0
+ProgressStands s t r = Stands (instantGround t) zero (progressIn (whole (s .«start_ms»)) (whole (s .«end_ms»)) t) (groundOf r) (progressOf r)
 
 -- ---- what holds of it
 

@@ -13,7 +13,7 @@ use Rattle.tag.specs.Table.{encode, tableWords}
 use Rattle.tag.specs.Range.{rows, inRange}
 use Rattle.tag.specs.WellFormed.{recordsTo, faultIn, excess, tableGround}
 use Rattle.tag.specs.Decode.{decoders, decodeOne, decodeIn}
-use Rattle.refusal.specs.Answer.{groundNumber, answerValue}
+use Rattle.refusal.specs.Answer.{numberIn, groundOf, answerValue}
 use Rattle.karaoke.specs.declared.KaraokeSpan.{KaraokeSpan}
 use Rattle.karaoke.specs.Karaoke.{ms, karaokeSpans}
 use Rattle.karaoke.specs.Answer.{answer, wordsAfter}
@@ -58,39 +58,39 @@ table = tableWords (encode (tags (Karaoke Fill (cs 50) ∷ Karaoke Sweep (cs 25)
 abbrev nines : List ℕ
 nines = 9 ∷ 9 ∷ 9 ∷ 9 ∷ 9 ∷ []
 
-small : (groundNumber (answer table 1) ∷ answerValue (answer table 1) ∷ wordsAfter table nines) ≡ 9 ∷ 2 ∷ nines
+small : (numberIn (groundOf (answer table 1)) ∷ answerValue (answer table 1) ∷ wordsAfter table nines) ≡ 9 ∷ 2 ∷ nines
 unfolding wordsAfter karaokeSpans laidRows tableGround faultIn excess recordsTo inRange rows decodeIn decodeOne decoders tableWords encode
 small = refl
 
-large : (groundNumber (answer table 3) ∷ answerValue (answer table 3) ∷ wordsAfter table (9 ∷ 9 ∷ 9 ∷ nines)) ≡ 0 ∷ 2 ∷ 0 ∷ 0 ∷ 500 ∷ 1 ∷ 500 ∷ 750 ∷ 9 ∷ 9 ∷ []
+large : (numberIn (groundOf (answer table 3)) ∷ answerValue (answer table 3) ∷ wordsAfter table (9 ∷ 9 ∷ 9 ∷ nines)) ≡ 0 ∷ 2 ∷ 0 ∷ 0 ∷ 500 ∷ 1 ∷ 500 ∷ 750 ∷ 9 ∷ 9 ∷ []
 unfolding wordsAfter karaokeSpans laidRows tableGround faultIn excess recordsTo inRange rows decodeIn decodeOne decoders tableWords encode
 large = refl
 
 -- progress, as bits, at some instants
-abbrev at : KaraokeSpan → List ℤ → List ℕ
-at s ts = map (λ t. bits (progressOf (progressed s t))) ts
+abbrev progresses : KaraokeSpan → List ℤ → List ℕ
+progresses s ts = map (λ t. bits (progressOf (progressed s t))) ts
 
 -- 500 to 750: 0 up to 500, 0.5 at 625, 1 from 750 on
-half : at (span Sweep 500 750) (negsuc 4 ∷ pos 0 ∷ pos 500 ∷ pos 625 ∷ pos 750 ∷ pos 751 ∷ []) ≡ 0 ∷ 0 ∷ 0 ∷ 0x3F000000 ∷ 0x3F800000 ∷ 0x3F800000 ∷ []
+half : progresses (span Sweep 500 750) (negsuc 4 ∷ pos 0 ∷ pos 500 ∷ pos 625 ∷ pos 750 ∷ pos 751 ∷ []) ≡ 0 ∷ 0 ∷ 0 ∷ 0x3F000000 ∷ 0x3F800000 ∷ 0x3F800000 ∷ []
 unfolding progressed toBits
 half = refl
 
 -- an end that does not come after the start
-empty : at (span Fill 500 500) (pos 500 ∷ pos 501 ∷ []) ≡ 0 ∷ 0x3F800000 ∷ []
+empty : progresses (span Fill 500 500) (pos 500 ∷ pos 501 ∷ []) ≡ 0 ∷ 0x3F800000 ∷ []
 unfolding progressed toBits
 empty = refl
 
 -- both numbers are rounded first: 16,777,217 counts as 16,777,216 and 16,777,219 as 16,777,220, and the quotient is not 0x3F7FFFFE
-rounded : at (span Fill 0 16777219) (pos 16777217 ∷ []) ≡ 0x3F7FFFFC ∷ []
+rounded : progresses (span Fill 0 16777219) (pos 16777217 ∷ []) ≡ 0x3F7FFFFC ∷ []
 unfolding progressed toBits
 rounded = refl
 
 -- starts and ends above 2,147,483,647 are whole numbers like any other
-above : at (span Fill 2147483648 2147483658) (pos 0 ∷ []) ≡ 0 ∷ []
+above : progresses (span Fill 2147483648 2147483658) (pos 0 ∷ []) ≡ 0 ∷ []
 unfolding progressed toBits
 above = refl
 
 -- ground 6, and beside it 0
-far : (Progress.groundNumber (progressed (span Fill 0 500) (pos 1000000001)) ∷ at (span Fill 0 500) (pos 1000000001 ∷ pos 1000000000 ∷ [])) ≡ 6 ∷ 0 ∷ 0x3F800000 ∷ []
+far : (numberIn (Progress.groundOf (progressed (span Fill 0 500) (pos 1000000001))) ∷ progresses (span Fill 0 500) (pos 1000000001 ∷ pos 1000000000 ∷ [])) ≡ 6 ∷ 0 ∷ 0x3F800000 ∷ []
 unfolding progressed toBits
 far = refl

@@ -9,7 +9,7 @@ ghost use Rattle.tag.specs.Range.{inRange};
 ghost use Rattle.table.specs.Inner.{Inside};
 ghost use Rattle.karaoke.specs.Karaoke.{inMs, plus as plusMs};
 ghost use Rattle.karaoke.specs.Answer.{answer as answerOf, laidSpans, Answered, AnsweredWords};
-ghost use Rattle.karaoke.specs.Progress.{progressIn, progressed, whole};
+ghost use Rattle.karaoke.specs.Progress.{progressIn, progressed, whole, progressOf, ProgressStands, InUnit};
 ghost use Rattle.karaoke.specs.Inner.{beatsFrom, Found, begun, spansLeft, writtenIn, Plain, Run, counted};
 use refusal::Answer;
 use refusal::Checked;
@@ -333,6 +333,8 @@ fn progress_in(start: Ms, end: Ms, t: i32) -> f32
 // 01, Karaoke: how far an instant is in a span.
 pub fn progress(span: KaraokeSpan, t: i32) -> Progressed
     ensures { λ r. ⌜ r ≡ progressed span t ⌝ }
+    ensures { λ r. ⌜ ProgressStands span t r ⌝ }
+    ensures { λ r. ⌜ InUnit (progressOf r) ⌝ }
 {
     match table::check_times(t, t) {
         Checked::Bad(r) => Progressed::Refused(r),

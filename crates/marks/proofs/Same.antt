@@ -20,7 +20,7 @@ use Rattle.state.specs.declared.OptPair.{OptPair}
 use Rattle.state.specs.State.{identity, withAlways, withPlaces, setTranslate}
 use Rattle.state.specs.Mix.{quotient, startOf, endOf, accelOf, bent, held, factor, cutBetween, mixPair, between}
 use Rattle.state.specs.Mix as Mix
-use Rattle.state.specs.Apply.{fromZero, fadeIn, fadeOut, fadAlpha, byte, fadeAlpha, alphaToMul, faded, at, applyOwn, applyTags, evaluateAt}
+use Rattle.state.specs.Apply.{fromZero, fadeIn, fadeOut, fadAlpha, byte, fadeAlpha, alphaToMul, faded, pair, applyOwn, applyTags, evaluateAt}
 use Rattle.marks.specs.Marks.{Interval, ramp, way, stage, ownMarks, marks, IsMark, here, later, NoMark}
 use Rattle.marks.proofs.Still.{Quiet, Still, same, ahead, over, empty, still, ramp-still, staged, stage-still}
 use Rattle.marks.proofs.Start.{stage-start}
@@ -103,7 +103,7 @@ module _ (t u : ℤ) (le : t ≤ℤ u) where
 
   -- ---- \move and \t
 
-  way-still : (x : Times) (dur : ℤ) → Quiet (way x dur) t u → Mix.ramp (startOf x) (endOf x dur) t ≡ Mix.ramp (startOf x) (endOf x dur) u
+  way-still : (x : Times) (dur : ℤ) → Quiet (way x dur) t u → Mix.advance (startOf x) (endOf x dur) t ≡ Mix.advance (startOf x) (endOf x dur) u
   way-still x dur n = ramp-still (startOf x) (endOf x dur) t u le n
 
   factor-still : (x : Times) (accel : Float) (dur : ℤ) → Quiet (way x dur) t u → factor x accel t dur ≡ factor x accel u dur
@@ -119,7 +119,7 @@ module _ (dur t u : ℤ) (le : t ≤ℤ u) where
   own-still (Fad t1 t2) quiet f g e st = ap (λ (m : Float). withAlways st (faded (st .always) m)) (fad-still t u le t1 t2 dur quiet)
   own-still (Fade a1 a2 a3 t1 t2 t3 t4) quiet f g e st = ap (λ (m : ℕ). withAlways st (faded (st .always) (alphaToMul m))) (fade-still t u le (byte a1) (byte a2) (byte a3) t1 t2 t3 t4 (min-le-right a1 255) (min-le-right a2 255) (min-le-right a3 255) (λ a w. quiet a (here w)) (λ a w. quiet a (later (here w))))
   own-still (Pos x y) quiet f g e st = refl
-  own-still (Move x1 y1 x2 y2 x) quiet f g e st = ap (λ (k : Float). withPlaces st (setTranslate (st .places) (OptPair.Some (mixPair (at x1 y1) (at x2 y2) k)))) (way-still t u le x dur (λ a w. quiet a (here w)))
+  own-still (Move x1 y1 x2 y2 x) quiet f g e st = ap (λ (k : Float). withPlaces st (setTranslate (st .places) (OptPair.Some (mixPair (pair x1 y1) (pair x2 y2) k)))) (way-still t u le x dur (λ a w. quiet a (here w)))
   own-still (Frz x) quiet f g e st = refl
   own-still (Blur x) quiet f g e st = refl
   own-still (Fscx x) quiet f g e st = refl

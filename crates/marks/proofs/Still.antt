@@ -17,51 +17,51 @@ Quiet i t u = (a : ℤ) → Within i a → t <ℤ a → a ≤ℤ u → ⊥
 -- why: the two instants are the same, or the interval comes later, or it is over, or it is empty
 pub data Still (i : Interval) (t u : ℤ) : Type 0 where
   same : t ≡ u → Still i t u
-  ahead : u <ℤ i .first → Still i t u
-  over : i .last ≤ℤ t → Still i t u
-  empty : i .last <ℤ i .first → Still i t u
+  ahead : u <ℤ i .begins → Still i t u
+  over : i .ends ≤ℤ t → Still i t u
+  empty : i .ends <ℤ i .begins → Still i t u
 
 module _ {i : Interval} {t u : ℤ} (le : t ≤ℤ u) (q : Quiet i t u) where
   -- where it has begun by u and is not over at t, its first mark or the one after t lies between
-  between : i .first ≤ℤ u → t <ℤ i .last → i .first ≤ℤ i .last → t <ℤ u → ⊥
+  between : i .begins ≤ℤ u → t <ℤ i .ends → i .begins ≤ℤ i .ends → t <ℤ u → ⊥
   between f l e m =
       ⊎-elim
-      (λ (h : i .first ≤ℤ t). q (sucℤ t) (record { from = ≤ℤ-trans h (<ℤ-≤ℤ (suc-after t)); to = <ℤ-suc l }) (suc-after t) (<ℤ-suc m))
-      (λ (h : t <ℤ i .first). q (i .first) (record { from = ≤ℤ-refl (i .first); to = e }) h f)
-      (total (i .first) t)
+      (λ (h : i .begins ≤ℤ t). q (sucℤ t) (record { from = ≤ℤ-trans h (<ℤ-≤ℤ (suc-after t)); to = <ℤ-suc l }) (suc-after t) (<ℤ-suc m))
+      (λ (h : t <ℤ i .begins). q (i .begins) (record { from = ≤ℤ-refl (i .begins); to = e }) h f)
+      (total (i .begins) t)
 
   pub still : Still i t u
   still =
       ⊎-elim
-      (λ (f : i .first ≤ℤ u).
+      (λ (f : i .begins ≤ℤ u).
       ⊎-elim over
-      (λ (l : t <ℤ i .last).
+      (λ (l : t <ℤ i .ends).
       ⊎-elim
-      (λ (e : i .first ≤ℤ i .last). ⊎-elim (λ (g : u ≤ℤ t). same (≤ℤ-antisym le g)) (λ (m : t <ℤ u). absurd (between f l e m)) (total u t))
+      (λ (e : i .begins ≤ℤ i .ends). ⊎-elim (λ (g : u ≤ℤ t). same (≤ℤ-antisym le g)) (λ (m : t <ℤ u). absurd (between f l e m)) (total u t))
       empty
-      (total (i .first) (i .last)))
-      (total (i .last) t))
+      (total (i .begins) (i .ends)))
+      (total (i .ends) t))
       ahead
-      (total (i .first) u)
+      (total (i .begins) u)
 
 -- ---- how far
 
 module _ (a b t u : ℤ) (le : t ≤ℤ u) where
-  rising : a <ℤ b → Still (ramp a b) t u → Mix.ramp a b t ≡ Mix.ramp a b u
-  unfolding Mix.ramp
-  rising h (same e) = ap (Mix.ramp a b) e
+  rising : a <ℤ b → Still (ramp a b) t u → Mix.advance a b t ≡ Mix.advance a b u
+  unfolding Mix.advance
+  rising h (same e) = ap (Mix.advance a b) e
   rising h (ahead k) = let g : u ≤ℤ a = before-suc k in rw (lt-leZ h, le-leZ g, le-leZ (≤ℤ-trans le g))
   rising h (over k) = rw (lt-leZ h, lt-leZ (<ℤ-≤ℤ-trans h k), lt-leZ (<ℤ-≤ℤ-trans h (≤ℤ-trans k le)), le-leZ k, le-leZ (≤ℤ-trans k le))
   rising h (empty k) = clashℤ h (before-suc k)
 
-  jumping : b ≤ℤ a → Still (single b) t u → Mix.ramp a b t ≡ Mix.ramp a b u
-  unfolding Mix.ramp
-  jumping h (same e) = ap (Mix.ramp a b) e
+  jumping : b ≤ℤ a → Still (single b) t u → Mix.advance a b t ≡ Mix.advance a b u
+  unfolding Mix.advance
+  jumping h (same e) = ap (Mix.advance a b) e
   jumping h (ahead k) = rw (le-leZ h, lt-leZ k, lt-leZ (≤ℤ-<ℤ-trans le k))
   jumping h (over k) = rw (le-leZ h, le-leZ k, le-leZ (≤ℤ-trans k le))
   jumping h (empty k) = clashℤ k (≤ℤ-refl b)
 
-  pub ramp-still : Quiet (pick (leZ b a) (single b) (ramp a b)) t u → Mix.ramp a b t ≡ Mix.ramp a b u
+  pub ramp-still : Quiet (pick (leZ b a) (single b) (ramp a b)) t u → Mix.advance a b t ≡ Mix.advance a b u
   ramp-still q =
       ⊎-elim
       (λ (h : b ≤ℤ a). jumping h (still le (rw (le-leZ h) at q)))

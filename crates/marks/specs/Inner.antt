@@ -14,7 +14,7 @@ most = 2147483647
 
 -- those of a \fad that goes out for longer than the line lasts
 abbrev pub earlyMarks : Interval
-earlyMarks = record { first = pos 0; last = pos 1 }
+earlyMarks = record { begins = pos 0; ends = pos 1 }
 
 -- a way and a stage: a ramp, or one mark where its end does not come after its start
 abbrev pub stretch : ℤ → ℤ → ℤ → Interval

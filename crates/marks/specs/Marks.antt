@@ -13,15 +13,15 @@ use Rattle.marks.specs.declared.Mark.{Mark}
 
 -- the marks from the first to the last, none where the last comes before the first
 pub record Interval : Type 0 where
-  pub first : ℤ
-  pub last : ℤ
+  pub begins : ℤ
+  pub ends : ℤ
 
 -- "A ramp from a to b with a < b has marks a+1 to b"
 abbrev pub ramp : ℤ → ℤ → Interval
-ramp a b = record { first = sucℤ a; last = b }
+ramp a b = record { begins = sucℤ a; ends = b }
 
 abbrev pub single : ℤ → Interval
-single a = record { first = a; last = a }
+single a = record { begins = a; ends = a }
 
 -- Move and T: "start 0 and end the duration if absent; a ramp start to end, or one mark at the end if end ≤ start"
 abbrev pub way : Times → ℤ → Interval
@@ -33,7 +33,7 @@ stage a b = pick (leZ b a) (single a) (ramp a b)
 
 -- Fad: "if t2 > d the marks 0 and 1, whether or not the state moves there"
 abbrev pub early : ℕ → ℕ → List Interval
-early t2 d = pick (ltb d t2) (record { first = pos 0; last = pos 1 } ∷ []) []
+early t2 d = pick (ltb d t2) (record { begins = pos 0; ends = pos 1 } ∷ []) []
 
 -- a tag's own marks in a line of dur milliseconds; those inside a T are not its own
 abbrev pub ownMarks : ℤ → AnimatedTag → List Interval
@@ -95,8 +95,8 @@ marks dur l = foldTags (λ x inner. ownMarks dur x ++ inner) [] _++_ l
 -- ---- a mark
 
 pub record Within (i : Interval) (a : ℤ) : Type 0 where
-  pub from : i .first ≤ℤ a
-  pub to : a ≤ℤ i .last
+  pub from : i .begins ≤ℤ a
+  pub to : a ≤ℤ i .ends
 
 pub data IsMark : List Interval → ℤ → Type 0 where
   here : {i : Interval} {l : List Interval} {a : ℤ} → Within i a → IsMark (i ∷ l) a
@@ -110,7 +110,7 @@ NoMark l t u = (a : ℤ) → IsMark l a → t <ℤ a → a ≤ℤ u → ⊥
 
 -- of an interval: where it begins, or the millisecond after t where it has begun
 abbrev pub afterIn : ℤ → Interval → Mark
-afterIn t i = pick (leZ (i .first) t) (pick (leZ (i .last) t) Mark.None (Mark.At (sucℤ t))) (pick (leZ (i .first) (i .last)) (Mark.At (i .first)) Mark.None)
+afterIn t i = pick (leZ (i .begins) t) (pick (leZ (i .ends) t) Mark.None (Mark.At (sucℤ t))) (pick (leZ (i .begins) (i .ends)) (Mark.At (i .begins)) Mark.None)
 
 abbrev pub least : Mark → Mark → Mark
 least Mark.None m = m
@@ -127,5 +127,5 @@ nextMark t dur l = firstAfter t (marks dur l)
 
 -- what "the earliest later mark" means of an answer
 pub data Earliest (l : List Interval) (t : ℤ) : Mark → Type 0 where
-  at : {a : ℤ} → IsMark l a → t <ℤ a → ((b : ℤ) → IsMark l b → t <ℤ b → a ≤ℤ b) → Earliest l t (Mark.At a)
+  soonest : {a : ℤ} → IsMark l a → t <ℤ a → ((b : ℤ) → IsMark l b → t <ℤ b → a ≤ℤ b) → Earliest l t (Mark.At a)
   never : ((b : ℤ) → IsMark l b → t <ℤ b → ⊥) → Earliest l t Mark.None

@@ -10,7 +10,8 @@ ghost use Rattle.tag.specs.WellFormed.{recordAt};
 ghost use Rattle.tag.specs.Decode.{timesOf, z, decodeOne, tagsOf};
 ghost use Rattle.marks.specs.Marks.{ramp, way, stage, ownMarks, afterIn, least as leastOf, firstAfter, nextMark};
 ghost use Rattle.marks.specs.Inner.{most, stretch, earlyMarks};
-ghost use Rattle.marks.specs.Answer.{marked};
+ghost use Rattle.marks.specs.Answer.{marked, MarkStands, Exact};
+ghost use Rattle.table.specs.Ground.{Fine};
 use refusal::Checked;
 use refusal::Refusal;
 
@@ -171,6 +172,8 @@ fn next_after(table: &[u32], t: i32, dur: i32) -> Mark
 // 01, Marks: the earliest mark after t of the tags that the table stands for, in a line of dur milliseconds.
 pub fn next_mark(table: &[u32], t: i32, dur: i32) -> Marked
     ensures { λ r. ⌜ r ≡ marked (now (table .entry)) t dur ⌝ }
+    ensures { λ r. ⌜ MarkStands (now (table .entry)) t dur r ⌝ }
+    ensures { λ r. ⌜ (Fine (now (table .entry)) t dur → Exact (now (table .entry)) t dur r) ⌝ }
 {
     match table::check_call(table, t, dur) {
         Checked::Bad(r) => Marked::Refused(r),

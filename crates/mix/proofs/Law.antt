@@ -7,7 +7,7 @@ use Rattle.tag.specs.Tag.{Times}
 use Rattle.scan.specs.Scan.{pick}
 use Rattle.state.specs.declared.Pair.{Pair}
 use Rattle.state.specs.declared.OptPair.{OptPair}
-use Rattle.state.specs.Mix.{startOf, endOf, ramp, finite, accelOf, bent, held, factor, pairOr, samePair}
+use Rattle.state.specs.Mix.{startOf, endOf, advance, finite, accelOf, bent, held, factor, pairOr, samePair}
 
 -- a finite float lies between the infinities
 pub finite-is : (x : Float) → lt (inf true) x ≡ true → lt x (inf false) ≡ finite x
@@ -25,7 +25,7 @@ not-finite (fin s m e) h = let z : _≡_ {A = Bool} true false = h in cc
 
 -- `factor`, step by step
 pub factor-is : (x : Times) (accel : Float) (t dur : ℤ) (raw a k v : Float) →
-    raw ≡ ramp (startOf x) (endOf x dur) t → a ≡ accelOf accel → k ≡ bent raw a → v ≡ held raw k → v ≡ factor x accel t dur
+    raw ≡ advance (startOf x) (endOf x dur) t → a ≡ accelOf accel → k ≡ bent raw a → v ≡ held raw k → v ≡ factor x accel t dur
 unfolding factor
 factor-is x accel t dur raw a k v p q r s = rw (s, r, q, p)
 

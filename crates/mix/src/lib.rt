@@ -82,7 +82,7 @@ fn held(raw: f32, k: f32) -> f32
 pub fn factor(flag: u32, start: u32, end: u32, accel: u32, t: i32, dur: i32) -> f32
     ensures { λ v. ⌜ v ≡ factorOf (timesOf flag start end) (f accel) t dur ⌝ }
 {
-    let raw = ramp::progress(flag, start, end, t, dur);
+    let raw = ramp::advance_by(flag, start, end, t, dur);
     let a = accel_of(float::f32_of_word(accel));
     held(raw, bent(raw, a))
 }

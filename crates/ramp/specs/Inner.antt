@@ -3,7 +3,7 @@ use Prim.Native.Nat.{ℕ}
 use lib.IntN.{ℤ}
 use lib.Ieee.{Float}
 use Rattle.tag.specs.Decode.{timesOf}
-use Rattle.state.specs.Mix.{ramp, startOf, endOf}
+use Rattle.state.specs.Mix.{advance, startOf, endOf}
 
-abbrev pub progressBy : ℕ → ℕ → ℕ → ℤ → ℤ → Float
-progressBy flag a b t dur = let x = timesOf flag a b in ramp (startOf x) (endOf x dur) t
+abbrev pub advanceBy : ℕ → ℕ → ℕ → ℤ → ℤ → Float
+advanceBy flag a b t dur = let x = timesOf flag a b in advance (startOf x) (endOf x dur) t

@@ -3,8 +3,8 @@ ghost use mathlib.Core.Path.{_≡_};
 ghost use mathlib.Core.Bool.{true};
 ghost use lib.IntN.{pos, _-ℤ_};
 ghost use lib.Signed.{leZ};
-ghost use Rattle.state.specs.Mix.{quotient as quotientOf, ramp as rampOf, mixPair, lerpBytes, cutBetween};
-ghost use Rattle.ramp.specs.Inner.{progressBy};
+ghost use Rattle.state.specs.Mix.{quotient as quotientOf, advance as advanceOf, mixPair, lerpBytes, cutBetween};
+ghost use Rattle.ramp.specs.Inner.{advanceBy};
 use state::Pair;
 
 // ---- times
@@ -38,8 +38,8 @@ pub fn passed(start: i32, end: i32, t: i32) -> f32
 }
 
 // How far t is on its way from start to end.
-pub fn ramp(start: i32, end: i32, t: i32) -> f32
-    ensures { λ r. ⌜ r ≡ rampOf start end t ⌝ }
+pub fn advance(start: i32, end: i32, t: i32) -> f32
+    ensures { λ r. ⌜ r ≡ advanceOf start end t ⌝ }
 {
     if end <= start {
         return if t >= end { 1.0 } else { 0.0 };
@@ -54,13 +54,13 @@ pub fn ramp(start: i32, end: i32, t: i32) -> f32
 }
 
 // The same with the times of \move and \t, which are from 0 to dur where the flag says that there are none.
-pub fn progress(flag: u32, a: u32, b: u32, t: i32, dur: i32) -> f32
-    ensures { λ r. ⌜ r ≡ progressBy flag a b t dur ⌝ }
+pub fn advance_by(flag: u32, a: u32, b: u32, t: i32, dur: i32) -> f32
+    ensures { λ r. ⌜ r ≡ advanceBy flag a b t dur ⌝ }
 {
     if flag == 0 {
-        return ramp(0, dur, t);
+        return advance(0, dur, t);
     }
-    ramp(float::of_word(a), float::of_word(b), t)
+    advance(float::of_word(a), float::of_word(b), t)
 }
 
 // ---- values

@@ -19,7 +19,7 @@ use Rattle.refusal.specs.declared.Checked.the-variants.{Good, Bad}
 use Rattle.refusal.specs.declared.Answer.{Answer}
 use Rattle.refusal.specs.declared.Answer.the-variants.{Written, Refused}
 use Rattle.refusal.specs.Refusal.{mostBytes, mostPlaces, textGround}
-use Rattle.refusal.specs.Answer.{groundPlace, answerValue, roomFor, unlessBad}
+use Rattle.refusal.specs.Answer.{placeIn, groundOf, answerValue, roomFor, unlessBad}
 
 -- a text with no ground 1 is short
 pub good-short : (s : List ℕ) → textGround s ≡ Good → length s ≤ mostBytes
@@ -33,7 +33,7 @@ good-short s e =
 -- ---- 01, Grounds: "Each gives its number and the stated place or count (else 0)": that is no more than the text has bytes, and no more than 12,288
 
 abbrev pub Within : List ℕ → Answer → Type 0
-Within s a = (groundPlace a ≤ length s) × (groundPlace a ≤ mostBytes)
+Within s a = (placeIn (groundOf a) ≤ length s) × (placeIn (groundOf a) ≤ mostBytes)
 
 -- ground 9, where no more are needed than the text has bytes
 pub room-within : (s : List ℕ) (n places : ℕ) → length s ≤ mostBytes → n ≤ length s → Within s (roomFor n places)

@@ -1,4 +1,5 @@
 -- The answer of a call that fills a table: how many records or commands it wrote, or the refusal.
+use mathlib.Core.Path.{_≡_}
 use mathlib.Core.List.{List}
 use Prim.Native.Nat.{ℕ, min}
 use lib.Dec.{leb}
@@ -10,15 +11,33 @@ use Rattle.refusal.specs.declared.Answer.{Answer}
 use Rattle.refusal.specs.declared.Answer.the-variants.{Written, Refused}
 use Rattle.refusal.specs.Refusal.{numberOf, placeOf, mostPlaces}
 
--- the answer's ground, 0 for none
-abbrev pub groundNumber : Answer → ℕ
-groundNumber (Written n) = 0
-groundNumber (Refused r) = numberOf r
+-- ---- what stands for what a check finds
 
--- the ground's place or count, 0 for none
-abbrev pub groundPlace : Answer → ℕ
-groundPlace (Written n) = 0
-groundPlace (Refused r) = placeOf r
+-- 01, Grounds for turning a call down: "Each gives its number and the stated place or count (else 0)"; 0 where no ground stands
+abbrev pub numberIn : Checked → ℕ
+numberIn Good = 0
+numberIn (Bad r) = numberOf r
+
+abbrev pub placeIn : Checked → ℕ
+placeIn Good = 0
+placeIn (Bad r) = placeOf r
+
+-- "Beside it stand the state `identity`, progress 0, no mark, scale 1 or an empty part": x beside a ground, else the answer's own y
+abbrev pub beside : {A : Type 0} → Checked → A → A → A
+beside Good x y = y
+beside (Bad r) x y = x
+
+-- What stands for an answer: the ground g that it names and the value v that it holds. The checks find c; x stands beside a ground, and
+-- without one the value is y.
+pub record Stands {A : Type 0} (c : Checked) (x y : A) (g : Checked) (v : A) : Type 0 where
+  pub ground : g ≡ c
+  pub value : v ≡ beside c x y
+
+-- ---- a call that fills a table
+
+abbrev pub groundOf : Answer → Checked
+groundOf (Written n) = Good
+groundOf (Refused r) = Bad r
 
 -- how many were written; for a ground its place or count
 abbrev pub answerValue : Answer → ℕ

@@ -1,7 +1,7 @@
 // What \r has left at an instant, with nothing else of the state worked out.
 ghost use mathlib.Core.Path.{_≡_};
 ghost use Rattle.table.specs.Inner.{Inside};
-ghost use Rattle.evaluate.specs.Inner.{tagsAt};
+ghost use Rattle.evaluators.specs.Inner.{tagsAt};
 ghost use Rattle.evaluate.specs.Evaluate.{evaluated};
 ghost use Rattle.reset.specs.Reset.{resetIn, Leaves};
 use refusal::Checked;

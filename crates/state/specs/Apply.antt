@@ -29,7 +29,7 @@ use Rattle.state.specs.declared.Alphas.{Alphas}
 use Rattle.state.specs.declared.Line.{Line}
 use Rattle.state.specs.declared.RenderState.{RenderState}
 use Rattle.state.specs.State.{identity, withAlways, withPlaces, withClips, withSizes, withColors, withAlphas, withLine, withFont, setAlphaMul, setRotateRadians, setRotateXRadians, setRotateYRadians, setScale, setBlurSigma, setBeStrength, setShear, setTranslate, setBorder, setShadow, setClipRect, setIclipRect, setFontSize, setLetterSpacing, setDrawingBaselineOffset, setPrimaryColor, setSecondaryColor, setOutlineColor, setShadowColor, setPrimaryAlpha, setSecondaryAlpha, setOutlineAlpha, setShadowAlpha, setPivot, setClipDrawing, setIclipDrawing, setWrapStyle, setAlignment, setResetToStyle, setDrawingScale, setFontName, setFontEncoding, setBoldWeight, setItalic, setUnderline, setStrikeout}
-use Rattle.state.specs.Mix.{quotient, ramp, startOf, endOf, factor, ofNat, cutBetween, mixPair, between}
+use Rattle.state.specs.Mix.{quotient, advance, startOf, endOf, factor, ofNat, cutBetween, mixPair, between}
 
 -- ---- \fad
 
@@ -78,23 +78,23 @@ faded s m = setAlphaMul s (mul binary32 (s .«alpha_mul») m)
 
 -- ---- places, rectangles, names
 
-abbrev pub at : Float → Float → Pair
-at x y = record { x = x; y = y }
+abbrev pub pair : Float → Float → Pair
+pair x y = record { x = x; y = y }
 
 -- `unwrap_or((0.0, 0.0))`
 abbrev pub orZero : OptPair → Pair
-orZero OptPair.None = at zero zero
+orZero OptPair.None = pair zero zero
 orZero (OptPair.Some p) = p
 
 abbrev pub withX : OptPair → Float → OptPair
-withX p x = OptPair.Some (at x (orZero p .y))
+withX p x = OptPair.Some (pair x (orZero p .y))
 
 abbrev pub withY : OptPair → Float → OptPair
-withY p y = OptPair.Some (at (orZero p .x) y)
+withY p y = OptPair.Some (pair (orZero p .x) y)
 
 -- both axes at once
 abbrev pub axes : Float → OptPair
-axes w = OptPair.Some (at w w)
+axes w = OptPair.Some (pair w w)
 
 -- `percent / 100.0`
 unfoldable pub hundredth : Float → Float
@@ -136,22 +136,22 @@ wrapped s n = pick (leb n 3) (setWrapStyle s (OptU8.Some n)) s
 -- ---- a tag; `inner` is what the tags inside it do
 
 unfoldable pub applyOwn : ℤ → ℤ → AnimatedTag → (RenderState → RenderState) → RenderState → RenderState
-unfolding fadAlpha fadeAlpha alphaToMul faded toRadians maxZero hundredth rectOf numpad aligned wrapped identity ramp factor between
+unfolding fadAlpha fadeAlpha alphaToMul faded toRadians maxZero hundredth rectOf numpad aligned wrapped identity advance factor between
 -- \fad: opacity comes in at the line's start and goes out at its end
 applyOwn t dur (Fad t1 t2) inner st = withAlways st (faded (st .always) (fadAlpha t1 t2 t dur))
 -- \fade: three alphas, four times
 applyOwn t dur (Fade a1 a2 a3 t1 t2 t3 t4) inner st = withAlways st (faded (st .always) (alphaToMul (fadeAlpha (byte a1) (byte a2) (byte a3) t1 t2 t3 t4 t)))
 -- \pos: the line's place; the last of \pos and \move counts
-applyOwn t dur (Pos x y) inner st = withPlaces st (setTranslate (st .places) (OptPair.Some (at x y)))
+applyOwn t dur (Pos x y) inner st = withPlaces st (setTranslate (st .places) (OptPair.Some (pair x y)))
 -- \move: the place on the way from the one to the other
-applyOwn t dur (Move x1 y1 x2 y2 x) inner st = withPlaces st (setTranslate (st .places) (OptPair.Some (mixPair (at x1 y1) (at x2 y2) (ramp (startOf x) (endOf x dur) t))))
+applyOwn t dur (Move x1 y1 x2 y2 x) inner st = withPlaces st (setTranslate (st .places) (OptPair.Some (mixPair (pair x1 y1) (pair x2 y2) (advance (startOf x) (endOf x dur) t))))
 -- \frz, \frx, \fry: rotations, given in degrees
 applyOwn t dur (Frz x) inner st = withAlways st (setRotateRadians (st .always) (toRadians x))
 -- \blur: Gaussian blur, never below 0
 applyOwn t dur (Blur x) inner st = withAlways st (setBlurSigma (st .always) (maxZero x))
 -- \fscx, \fscy: scale in percent
-applyOwn t dur (Fscx x) inner st = withAlways st (setScale (st .always) (at (hundredth x) (st .always .scale .y)))
-applyOwn t dur (Fscy x) inner st = withAlways st (setScale (st .always) (at (st .always .scale .x) (hundredth x)))
+applyOwn t dur (Fscx x) inner st = withAlways st (setScale (st .always) (pair (hundredth x) (st .always .scale .y)))
+applyOwn t dur (Fscy x) inner st = withAlways st (setScale (st .always) (pair (st .always .scale .x) (hundredth x)))
 -- \c, \1c to \4c: colours
 applyOwn t dur (Color1 c) inner st = withColors st (setPrimaryColor (st .colors) (someRgb c))
 -- \fs: font size
@@ -163,7 +163,7 @@ applyOwn t dur (ClipDrawing p) inner st = withLine st (setClipDrawing (st .line)
 applyOwn t dur (Frx x) inner st = withAlways st (setRotateXRadians (st .always) (toRadians x))
 applyOwn t dur (Fry x) inner st = withAlways st (setRotateYRadians (st .always) (toRadians x))
 -- \org: what rotations turn around
-applyOwn t dur (Org x y) inner st = withLine st (setPivot (st .line) (OptPair.Some (at x y)))
+applyOwn t dur (Org x y) inner st = withLine st (setPivot (st .line) (OptPair.Some (pair x y)))
 -- \bord, \xbord, \ybord: border, never below 0; one axis alone keeps the other, 0 where there was none
 applyOwn t dur (Bord x) inner st = withPlaces st (setBorder (st .places) (axes (maxZero x)))
 applyOwn t dur (Xbord x) inner st = withPlaces st (setBorder (st .places) (withX (st .places .border .is) (maxZero x)))
@@ -175,8 +175,8 @@ applyOwn t dur (Yshad x) inner st = withPlaces st (setShadow (st .places) (withY
 -- \be: edge blur
 applyOwn t dur (Be n) inner st = withAlways st (setBeStrength (st .always) (byte n))
 -- \fax, \fay: shear
-applyOwn t dur (Fax x) inner st = withAlways st (setShear (st .always) (at x (st .always .shear .y)))
-applyOwn t dur (Fay x) inner st = withAlways st (setShear (st .always) (at (st .always .shear .x) x))
+applyOwn t dur (Fax x) inner st = withAlways st (setShear (st .always) (pair x (st .always .shear .y)))
+applyOwn t dur (Fay x) inner st = withAlways st (setShear (st .always) (pair (st .always .shear .x) x))
 applyOwn t dur (IClipRect x1 y1 x2 y2) inner st = withClips st (setIclipRect (st .clips) (rectOf x1 y1 x2 y2))
 applyOwn t dur (IClipDrawing p) inner st = withLine st (setIclipDrawing (st .line) (OptPart.Some (part p)))
 applyOwn t dur (Color2 c) inner st = withColors st (setSecondaryColor (st .colors) (someRgb c))

@@ -36,9 +36,9 @@ unfolding ofInt div
 quotient a b = div binary32 (ofInt binary32 a) (ofInt binary32 b)
 
 -- how far t is on its way: 0 up to the start, 1 from the end on; where the end does not come after the start, 1 from the end on
-unfoldable pub ramp : ℤ → ℤ → ℤ → Float
+unfoldable pub advance : ℤ → ℤ → ℤ → Float
 unfolding quotient
-ramp start end t =
+advance start end t =
     pick (leZ end start) (pick (leZ end t) one zero)
     (pick (leZ t start) zero (pick (leZ end t) one (quotient (t -ℤ start) (end -ℤ start))))
 
@@ -82,8 +82,8 @@ unfolding clamp
 held raw k = pick (finite k) (clamp k zero one) raw
 
 unfoldable pub factor : Times → Float → ℤ → ℤ → Float
-unfolding ramp bent held
-factor x accel t dur = let raw = ramp (startOf x) (endOf x dur) t in held raw (bent raw (accelOf accel))
+unfolding advance bent held
+factor x accel t dur = let raw = advance (startOf x) (endOf x dur) t in held raw (bent raw (accelOf accel))
 
 -- ---- numbers between two
 

@@ -16,7 +16,7 @@ use Rattle.refusal.specs.declared.Refusal.the-variants.{TableMalformed}
 use Rattle.tag.specs.declared.Record.{Record}
 use Rattle.tag.specs.Tag.{mostDepth}
 use Rattle.tag.specs.Range.{inRange}
-use Rattle.tag.specs.WellFormed.{tKind, holds, first, faultIn, fault}
+use Rattle.tag.specs.WellFormed.{tKind, holds, firstGround, faultIn, fault}
 use Rattle.table.specs.Inner.{recordIn, part, Inside, ofKind, stands, tStands, faultOfT}
 use Rattle.table.proofs.Slices.{inside-places, part-more, length-part, take-part, drop-part}
 
@@ -78,7 +78,7 @@ fault-bad zero i r l e = go (inRange r) (eqb (r .kind) tKind) e
 fault-bad (suc d) i r l e = go (inRange r) (eqb (r .kind) tKind) (leb (holds r) (length l)) (rw (lt-ltb 0 (suc d) (omega arith)) at e)
   where
     go : (a b c : Bool) → pick b (both a (pick true c false)) a ≡ false
-        → pick a (pick b (pick c (first (faultIn (length l) d (i + 1) (take (holds r) l)) (faultIn (length l) (suc d) (i + 1 + holds r) (drop (holds r) l))) (Bad (TableMalformed i))) (faultIn (length l) (suc d) (i + 1) l)) (Bad (TableMalformed i)) ≡ Bad (TableMalformed i)
+        → pick a (pick b (pick c (firstGround (faultIn (length l) d (i + 1) (take (holds r) l)) (faultIn (length l) (suc d) (i + 1 + holds r) (drop (holds r) l))) (Bad (TableMalformed i))) (faultIn (length l) (suc d) (i + 1) l)) (Bad (TableMalformed i)) ≡ Bad (TableMalformed i)
     go true true true e = absurd (true≢false e)
     go true true false e = refl
     go true false c e = absurd (true≢false e)
@@ -90,7 +90,7 @@ fault-plain zero i r l e h = rw (e, ne-eqb (r .kind) tKind h)
 fault-plain (suc d) i r l e h = rw (e, ne-eqb (r .kind) tKind h)
 
 fault-t : (d i : ℕ) (r : Record) (l : List Record) → inRange r ≡ true → r .kind ≡ tKind → 0 < d → holds r ≤ length l
-    → fault d i (r ∷ l) ≡ first (fault (d - 1) (i + 1) (take (holds r) l)) (fault d (i + 1 + holds r) (drop (holds r) l))
+    → fault d i (r ∷ l) ≡ firstGround (fault (d - 1) (i + 1) (take (holds r) l)) (fault d (i + 1 + holds r) (drop (holds r) l))
 unfolding faultIn
 fault-t zero i r l e h p q = absurd (omega arith)
 fault-t (suc d) i r l e h p q =
@@ -132,7 +132,7 @@ module _ (t : List ℕ) (d at left : ℕ) (h : Inside t at left) (g : 0 < left) 
   step-plain e n = ap (fault d at) here ∙ fault-plain d at r behind (in-range (left - 1) d r e) n
 
   pub step-t : stands (left - 1) d r ≡ true → r .kind ≡ tKind
-      → fault d at (part t at left) ≡ first (fault (d - 1) (at + 1) (part t (at + 1) (holds r))) (fault d (at + 1 + holds r) (part t (at + 1 + holds r) (left - 1 - holds r)))
+      → fault d at (part t at left) ≡ firstGround (fault (d - 1) (at + 1) (part t (at + 1) (holds r))) (fault d (at + 1 + holds r) (part t (at + 1 + holds r) (left - 1 - holds r)))
   step-t e k =
       let s = t-stands (left - 1) d r e k in
       let f = fault-t d at r behind (in-range (left - 1) d r e) k (s .0) (rw size (s .1)) in
@@ -161,14 +161,14 @@ module _ (t : List ℕ) (d at left : ℕ) (h : Inside t at left) (g : 0 < left) 
       pub turn-room : (0 < d) × (holds x ≤ left - 1)
       turn-room = t-stands (left - 1) d x (sym s ∙ z) k
 
-      turn-t : fault d at (part t at left) ≡ first (fault (d - 1) (at + 1) (part t (at + 1) (holds x))) (fault d (at + 1 + holds x) (part t (at + 1 + holds x) (left - 1 - holds x)))
+      turn-t : fault d at (part t at left) ≡ firstGround (fault (d - 1) (at + 1) (part t (at + 1) (holds x))) (fault d (at + 1 + holds x) (part t (at + 1 + holds x) (left - 1 - holds x)))
       turn-t = step-t (sym (ap (stands (left - 1) d) e) ∙ sym s ∙ z) (sym (ap (λ (y : Record). y .kind) e) ∙ k) ∙ rw e refl
 
       pub turn-in : (c : Checked) → c ≡ fault (d - 1) (at + 1) (part t (at + 1) (holds x)) → (b : Refusal) → c ≡ Bad b → Bad b ≡ fault d at (part t at left)
-      turn-in c f b g = sym (turn-t ∙ ap (λ (y : Checked). first y (fault d (at + 1 + holds x) (part t (at + 1 + holds x) (left - 1 - holds x)))) (sym f ∙ g))
+      turn-in c f b g = sym (turn-t ∙ ap (λ (y : Checked). firstGround y (fault d (at + 1 + holds x) (part t (at + 1 + holds x) (left - 1 - holds x)))) (sym f ∙ g))
 
       pub turn-past : (c : Checked) → c ≡ fault (d - 1) (at + 1) (part t (at + 1) (holds x)) → c ≡ Good → fault d (at + 1 + holds x) (part t (at + 1 + holds x) (left - 1 - holds x)) ≡ fault d at (part t at left)
-      turn-past c f g = sym (turn-t ∙ ap (λ (y : Checked). first y (fault d (at + 1 + holds x) (part t (at + 1 + holds x) (left - 1 - holds x)))) (sym f ∙ g))
+      turn-past c f g = sym (turn-t ∙ ap (λ (y : Checked). firstGround y (fault d (at + 1 + holds x) (part t (at + 1 + holds x) (left - 1 - holds x)))) (sym f ∙ g))
 
 -- ---- a T
 

@@ -20,17 +20,17 @@ use Rattle.refusal.specs.declared.Refusal.{Refusal}
 use Rattle.refusal.specs.declared.Refusal.the-variants.{TableMalformed, TimeOutOfRange}
 use Rattle.tag.specs.Tag.{mostDepth}
 use Rattle.tag.specs.Table.{width, placesOf}
-use Rattle.tag.specs.WellFormed.{recordsOf, broken, WellFormed, first, fault, excess, tableGround}
+use Rattle.tag.specs.WellFormed.{recordsOf, broken, WellFormed, firstGround, fault, excess, tableGround}
 use Rattle.tag.proofs.Formed.{ground-formed, formed-ground}
 use Rattle.table.specs.Inner.{part}
-use Rattle.table.specs.Ground.{inTime, timeGround, callGround}
+use Rattle.table.specs.Ground.{inTime, timeGround, Fine, callGround}
 use Rattle.table.proofs.Slices.{length-records}
 
 -- the first of two answers
-pub first-none : {a : Checked} (b : Checked) → a ≡ Good → b ≡ first a b
+pub first-none : {a : Checked} (b : Checked) → a ≡ Good → b ≡ firstGround a b
 first-none b e = rw e
 
-pub first-found : {a : Checked} (b : Checked) {x : Refusal} → a ≡ Bad x → Bad x ≡ first a b
+pub first-found : {a : Checked} (b : Checked) {x : Refusal} → a ≡ Bad x → Bad x ≡ firstGround a b
 first-found b e = rw e
 
 -- ---- ground 5 in the code's words
@@ -49,7 +49,7 @@ front t =
     (λ h. let z : min (placesOf t) mostPlaces ≡ mostPlaces = omega arith in rw z)
     (le-or-lt (placesOf t) mostPlaces)
 
-pub table-found : (t : List ℕ) (n : ℕ) (c : Checked) → n ≡ min (placesOf t) mostPlaces → c ≡ fault mostDepth 0 (part t 0 n) → first c (excess t) ≡ tableGround t
+pub table-found : (t : List ℕ) (n : ℕ) (c : Checked) → n ≡ min (placesOf t) mostPlaces → c ≡ fault mostDepth 0 (part t 0 n) → firstGround c (excess t) ≡ tableGround t
 unfolding tableGround
 table-found t n c h e = rw (e, h, front t)
 
@@ -59,7 +59,7 @@ pub times-found : (t dur : ℤ) (a b v : Bool) → a ≡ inTime t → b ≡ inTi
 unfolding timeGround
 times-found t dur a b v h g e = rw (e, h, g)
 
-pub call-found : (ws : List ℕ) (t dur : ℤ) (c : Checked) → c ≡ tableGround ws → first c (timeGround t dur) ≡ callGround ws t dur
+pub call-found : (ws : List ℕ) (t dur : ℤ) (c : Checked) → c ≡ tableGround ws → firstGround c (timeGround t dur) ≡ callGround ws t dur
 unfolding callGround
 call-found ws t dur c e = rw e
 
@@ -78,16 +78,10 @@ size-in-time (negsuc n) h = rw (le-leb n 999999999 (omega arith))
 
 -- ---- a call
 
--- no ground stands against a call: its table is well formed, its instant and its duration are in range
-pub record Fine (ws : List ℕ) (t dur : ℤ) : Type 0 where
-  pub formed : WellFormed ws
-  pub instant : inTime t ≡ true
-  pub duration : inTime dur ≡ true
-
 bad-good : {b : Refusal} → Bad b ≡ Good → ⊥
 bad-good e = let z : _≡_ {A = ℕ} 0 1 = cc in omega arith
 
-first-good : (a b : Checked) → first a b ≡ Good → (a ≡ Good) × (b ≡ Good)
+first-good : (a b : Checked) → firstGround a b ≡ Good → (a ≡ Good) × (b ≡ Good)
 first-good Good b e = (refl, e)
 first-good (Bad r) b e = absurd (bad-good e)
 

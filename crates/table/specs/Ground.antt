@@ -1,4 +1,5 @@
 -- 01, Grounds for turning a call down: 6, and 5 before it.
+use mathlib.Core.Path.{_≡_}
 use mathlib.Core.List.{List}
 use mathlib.Core.Bool.{Bool, true, false}
 use Prim.Native.Nat.{ℕ}
@@ -9,7 +10,7 @@ use Rattle.float.specs.Float.{reach}
 use Rattle.refusal.specs.declared.Checked.{Checked}
 use Rattle.refusal.specs.declared.Checked.the-variants.{Good, Bad}
 use Rattle.refusal.specs.declared.Refusal.the-variants.{TimeOutOfRange}
-use Rattle.tag.specs.WellFormed.{first, tableGround}
+use Rattle.tag.specs.WellFormed.{WellFormed, firstGround, tableGround}
 
 -- "within ±1,000,000,000"
 abbrev pub inTime : ℤ → Bool
@@ -19,6 +20,16 @@ inTime z = both (leZ (negℤ (pos reach)) z) (leZ z (pos reach))
 unfoldable pub timeGround : ℤ → ℤ → Checked
 timeGround t dur = pick (both (inTime t) (inTime dur)) Good (Bad TimeOutOfRange)
 
+-- "In range means within ±1,000,000,000"
+abbrev pub InTime : ℤ → Type 0
+InTime z = inTime z ≡ true
+
+-- that neither stands against a call: its table is well formed, its instant and its duration are in range
+pub record Fine (ws : List ℕ) (t dur : ℤ) : Type 0 where
+  pub formed : WellFormed ws
+  pub instant : InTime t
+  pub duration : InTime dur
+
 -- grounds 5 and 6 of a call that is given a table, an instant and a duration
 unfoldable pub callGround : List ℕ → ℤ → ℤ → Checked
-callGround ws t dur = first (tableGround ws) (timeGround t dur)
+callGround ws t dur = firstGround (tableGround ws) (timeGround t dur)

@@ -7,7 +7,7 @@ ghost use Prim.Native.Nat.{_+_, _-_, _*_, _<_};
 ghost use lib.Dec.{eqb};
 ghost use Rattle.scan.specs.Scan.{both, within as withinOf};
 ghost use Rattle.tag.specs.Range.{unused, float, range, time, weight, free, timeWord, partFits, timesFit, wordFits, inRange};
-ghost use Rattle.tag.specs.WellFormed.{first, fault as faultOf, excess as excessOf, tableGround};
+ghost use Rattle.tag.specs.WellFormed.{firstGround, fault as faultOf, excess as excessOf, tableGround};
 ghost use Rattle.table.specs.Inner.{recordIn, part, Inside, wordsFit, oneFits, twoFit, flagTimes, fontParts, stylePart, stands as standsOf, tStands, faultOfT};
 ghost use Rattle.table.specs.Ground.{inTime, timeGround, callGround};
 
@@ -367,7 +367,7 @@ pub fn check_times(t: i32, dur: i32) -> Checked
 
 // What is left of grounds 5 and 6 where no record is at fault.
 pub fn after_records(table: &[u32], t: i32, dur: i32) -> Checked
-    ensures { λ r. ⌜ r ≡ first (excessOf (now (table .entry))) (timeGround t dur) ⌝ }
+    ensures { λ r. ⌜ r ≡ firstGround (excessOf (now (table .entry))) (timeGround t dur) ⌝ }
 {
     let found = excess(table);
     match found {

@@ -20,7 +20,7 @@ use Rattle.refusal.specs.declared.Refusal.the-variants.{TableMalformed}
 use Rattle.tag.specs.declared.Record.{Record}
 use Rattle.tag.specs.Tag.{mostDepth}
 use Rattle.tag.specs.Range.{inRange}
-use Rattle.tag.specs.WellFormed.{recordsOf, broken, All, all, more, InRange, tKind, holds, Nested, end, plain, around, WellFormed, first, faultIn, fault, excess, tableGround, AtFault, range, deep, past, later, inner, behind}
+use Rattle.tag.specs.WellFormed.{recordsOf, broken, All, all, more, InRange, tKind, holds, Nested, end, plain, around, WellFormed, firstGround, faultIn, fault, excess, tableGround, AtFault, range, deep, past, later, inner, behind}
 
 -- ---- lists
 
@@ -46,7 +46,7 @@ all-parts {A} {P} n l a b = subst (All P) (take-append-drop n l) (all-append a b
 bad-good : {r : Refusal} → Bad r ≡ Good → ⊥
 bad-good e = let z : _≡_ {A = ℕ} 0 1 = cc in omega arith
 
-first-good : (a b : Checked) → first a b ≡ Good → (a ≡ Good) × (b ≡ Good)
+first-good : (a b : Checked) → firstGround a b ≡ Good → (a ≡ Good) × (b ≡ Good)
 first-good Good b e = (refl, e)
 first-good (Bad r) b e = absurd (bad-good e)
 
@@ -109,7 +109,7 @@ fault-fine (suc n) (suc d) i (r ∷ l) h e =
     (λ f. fault-fine n (suc d) (i + 1 + holds r) (drop (holds r) l) (omega (arith, length-drop (holds r) l)) f)
   where
     go : (t u v : Bool) → inRange r ≡ t → eqb (r .kind) tKind ≡ u → leb (holds r) (length l) ≡ v
-        → pick t (pick u (pick v (first (faultIn n d (i + 1) (take (holds r) l)) (faultIn n (suc d) (i + 1 + holds r) (drop (holds r) l))) (Bad (TableMalformed i))) (faultIn n (suc d) (i + 1) l)) (Bad (TableMalformed i)) ≡ Good
+        → pick t (pick u (pick v (firstGround (faultIn n d (i + 1) (take (holds r) l)) (faultIn n (suc d) (i + 1 + holds r) (drop (holds r) l))) (Bad (TableMalformed i))) (faultIn n (suc d) (i + 1) l)) (Bad (TableMalformed i)) ≡ Good
         → (faultIn n (suc d) (i + 1) l ≡ Good → Fine (suc d) l)
         → (faultIn n d (i + 1) (take (holds r) l) ≡ Good → Fine d (take (holds r) l))
         → (faultIn n (suc d) (i + 1 + holds r) (drop (holds r) l) ≡ Good → Fine (suc d) (drop (holds r) l)) → Fine (suc d) (r ∷ l)
@@ -191,7 +191,7 @@ module _ {d i : ℕ} (r : Record) (l : List Record) {b : Refusal} (a : inRange r
       let w = eqb-true (r .kind) tKind e in
       record { place = suc (holds r + f .place); is = rw z (f .is); fault = behind w (f .fault); none = λ k h g. none-behind a w (leb-true (holds r) (length l) c) q (f .none) h g }
 
-first-bad : (a b : Checked) {x : Refusal} → first a b ≡ Bad x → (a ≡ Bad x) ⊎ ((a ≡ Good) × (b ≡ Bad x))
+first-bad : (a b : Checked) {x : Refusal} → firstGround a b ≡ Bad x → (a ≡ Bad x) ⊎ ((a ≡ Good) × (b ≡ Bad x))
 first-bad Good b e = inr (refl, e)
 first-bad (Bad r) b e = inl e
 
@@ -214,7 +214,7 @@ fault-first (suc n) (suc d) i (r ∷ l) {b} h e =
     (λ f. fault-first n (suc d) (i + 1 + holds r) (drop (holds r) l) (omega (arith, length-drop (holds r) l)) f)
   where
     go : (t u v : Bool) → inRange r ≡ t → eqb (r .kind) tKind ≡ u → leb (holds r) (length l) ≡ v
-        → pick t (pick u (pick v (first (faultIn n d (i + 1) (take (holds r) l)) (faultIn n (suc d) (i + 1 + holds r) (drop (holds r) l))) (Bad (TableMalformed i))) (faultIn n (suc d) (i + 1) l)) (Bad (TableMalformed i)) ≡ Bad b
+        → pick t (pick u (pick v (firstGround (faultIn n d (i + 1) (take (holds r) l)) (faultIn n (suc d) (i + 1 + holds r) (drop (holds r) l))) (Bad (TableMalformed i))) (faultIn n (suc d) (i + 1) l)) (Bad (TableMalformed i)) ≡ Bad b
         → (faultIn n (suc d) (i + 1) l ≡ Bad b → FirstFault (suc d) (i + 1) l b)
         → (faultIn n d (i + 1) (take (holds r) l) ≡ Bad b → FirstFault d (i + 1) (take (holds r) l) b)
         → (faultIn n d (i + 1) (take (holds r) l) ≡ Good → Fine d (take (holds r) l))

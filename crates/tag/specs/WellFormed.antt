@@ -68,12 +68,12 @@ pub record WellFormed (t : List ℕ) : Type 0 where
 -- ---- ground 5: the first record at fault
 
 -- a record at fault, its index, in records of which the first has the index i
-abbrev at : ℕ → Checked
-at i = Bad (TableMalformed i)
+abbrev faultAt : ℕ → Checked
+faultAt i = Bad (TableMalformed i)
 
-abbrev pub first : Checked → Checked → Checked
-first Good c = c
-first (Bad r) c = Bad r
+abbrev pub firstGround : Checked → Checked → Checked
+firstGround Good c = c
+firstGround (Bad r) c = Bad r
 
 -- The first at fault among records of which the first has the index i, with d more levels of T allowed, over at most n of them. A T that
 -- reaches past the end of what encloses it is at fault itself, and so is one too deep.
@@ -82,23 +82,23 @@ faultIn zero d i l = Good
 faultIn (suc n) d i [] = Good
 faultIn (suc n) zero i (r ∷ l) =
     let more = faultIn n zero (i + 1) l in
-    pick (inRange r) (pick (eqb (r .kind) tKind) (at i) more) (at i)
+    pick (inRange r) (pick (eqb (r .kind) tKind) (faultAt i) more) (faultAt i)
 faultIn (suc n) (suc d) i (r ∷ l) =
     let more = faultIn n (suc d) (i + 1) l in
     let inner = faultIn n d (i + 1) (take (holds r) l) in
     let behind = faultIn n (suc d) (i + 1 + holds r) (drop (holds r) l) in
-    pick (inRange r) (pick (eqb (r .kind) tKind) (pick (leb (holds r) (length l)) (first inner behind) (at i)) more) (at i)
+    pick (inRange r) (pick (eqb (r .kind) tKind) (pick (leb (holds r) (length l)) (firstGround inner behind) (faultAt i)) more) (faultAt i)
 
 abbrev pub fault : ℕ → ℕ → List Record → Checked
 fault d i l = faultIn (length l) d i l
 
 -- the excess comes behind the 1,024th record, a broken record behind the whole ones
 unfoldable pub excess : List ℕ → Checked
-excess t = pick (leb (length (recordsOf t)) mostPlaces) (pick (broken t) (at (length (recordsOf t))) Good) (at mostPlaces)
+excess t = pick (leb (length (recordsOf t)) mostPlaces) (pick (broken t) (faultAt (length (recordsOf t))) Good) (faultAt mostPlaces)
 
 -- ground 5 of a table
 unfoldable pub tableGround : List ℕ → Checked
-tableGround t = first (fault mostDepth 0 (take mostPlaces (recordsOf t))) (excess t)
+tableGround t = firstGround (fault mostDepth 0 (take mostPlaces (recordsOf t))) (excess t)
 
 -- ---- what "at fault" means of one record
 

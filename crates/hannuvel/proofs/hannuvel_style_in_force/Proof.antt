@@ -4,7 +4,7 @@ use mir.Syntax.{w32}
 use mir.ValLaws.{toZ-ofZ}
 use Rattle.evaluate.specs.Evaluate.{evaluated}
 use Rattle.style.proofs.Places.{named-within}
-use Rattle.hannuvel.proofs.InForce.{style-by}
+use Rattle.hannuvel.proofs.InForce.{style-by, style-says}
 use Rattle.hannuvel.proofs.hannuvel_style_in_force.Statement.{statement}
 use Rattle.hannuvel.proofs.hannuvel_style_in_force.Tie as tie
 
@@ -14,21 +14,21 @@ packed-style-requires c κs =
     rw (c .named-reset .ensures) (named-within (a .block .now) (a .own .now) (c .before .before .s .given .0 .0) .order)
 
 returns : tie.Need-returns
-returns c = record { answered = rw (sym (c .before .before .before .before .check-texts .ensures) ∙ c .before .before .g .given .1) (c .packed-refusal .ensures) }
+returns c = style-says _ _ _ _ _ (rw (sym (c .before .before .before .before .check-texts .ensures) ∙ c .before .before .g .given .1) (c .packed-refusal .ensures))
 
 returns-2 : tie.Need-returns-2
 returns-2 c =
     let s = c .before .before .before .before .before .before .before .before .before .before .before in
     let a = s .args in
     let k = rw (toZ-ofZ w32 (a .t) (s .fits .t), toZ-ofZ w32 (a .duration) (s .fits .duration)) at (c .before .before .before .before .reset-at .ensures) in
-    record { answered = rw (sym (c .before .before .before .before .before .before .before .check-texts .ensures) ∙ c .before .before .before .before .before .enum-told .given .1, style-by (evaluated (a .table .now) (a .t) (a .duration)), sym k ∙ c .before .before .r .given .1) (c .packed-refusal2 .ensures) }
+    style-says _ _ _ _ _ (rw (sym (c .before .before .before .before .before .before .before .check-texts .ensures) ∙ c .before .before .before .before .before .enum-told .given .1, style-by (evaluated (a .table .now) (a .t) (a .duration)), sym k ∙ c .before .before .r .given .1) (c .packed-refusal2 .ensures))
 
 returns-3 : tie.Need-returns-3
 returns-3 c =
     let s = c .before .before .before .before .before .before .before .before .before .before .before .before in
     let a = s .args in
     let k = rw (toZ-ofZ w32 (a .t) (s .fits .t), toZ-ofZ w32 (a .duration) (s .fits .duration)) at (c .before .before .before .before .before .reset-at .ensures) in
-    record { answered = rw (sym (c .before .before .before .before .before .before .before .before .check-texts .ensures) ∙ c .before .before .before .before .before .before .enum-told .given .1, style-by (evaluated (a .table .now) (a .t) (a .duration)), sym k ∙ c .before .before .before .s .given .1) (rw (← c .before .named-reset .ensures) (c .packed-style .ensures)) }
+    style-says _ _ _ _ _ (rw (sym (c .before .before .before .before .before .before .before .before .check-texts .ensures) ∙ c .before .before .before .before .before .before .enum-told .given .1, style-by (evaluated (a .table .now) (a .t) (a .duration)), sym k ∙ c .before .before .before .s .given .1) (rw (← c .before .named-reset .ensures) (c .packed-style .ensures)))
 
 pub hannuvel-style-in-force-spec : {M : Type 1} → statement M
 hannuvel-style-in-force-spec =

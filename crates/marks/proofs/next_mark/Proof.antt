@@ -16,6 +16,7 @@ use Rattle.table.proofs.Grounds.{good-fine, in-time-size}
 use Rattle.marks.specs.Inner.{most}
 use Rattle.marks.specs.Answer.{marked}
 use Rattle.marks.proofs.Order.{ltZ-true}
+use Rattle.marks.proofs.Told.{told}
 use Rattle.marks.proofs.next_mark.Statement.{statement}
 use Rattle.marks.proofs.next_mark.Tie as tie
 
@@ -36,14 +37,14 @@ unfolding marked
 returns c =
     let s = c .before .before .before .before .before in
     let k = rw (toZ-ofZ w32 (s .args .t) (s .fits .t), toZ-ofZ w32 (s .args .dur) (s .fits .dur)) at (c .before .before .before .check-call .ensures) in
-    rw (sym k ∙ c .before .r .given .1)
+    told (s .args .table .now) (s .args .t) (s .args .dur) _ (rw (sym k ∙ c .before .r .given .1))
 
 returns-2 : tie.Need-returns-2
 unfolding marked
 returns-2 c =
     let s = c .before .before .before .before .before in
     let k = rw (toZ-ofZ w32 (s .args .t) (s .fits .t), toZ-ofZ w32 (s .args .dur) (s .fits .dur)) at (c .before .before .before .check-call .ensures) in
-    rw (sym k ∙ c .before .enum-told .given .1, c .next-after .ensures, toZ-ofZ w32 (s .args .t) (s .fits .t), toZ-ofZ w32 (s .args .dur) (s .fits .dur))
+    told (s .args .table .now) (s .args .t) (s .args .dur) _ (rw (sym k ∙ c .before .enum-told .given .1, c .next-after .ensures, toZ-ofZ w32 (s .args .t) (s .fits .t), toZ-ofZ w32 (s .args .dur) (s .fits .dur)))
 
 pub next-mark-spec : {M : Type 1} → statement M
 next-mark-spec = tie.close (tie.spec (λ c κs. search needs) (λ c. search needs) (λ c. search needs) next-after-requires returns returns-2)

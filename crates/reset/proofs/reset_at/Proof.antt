@@ -4,7 +4,7 @@ use mir.Syntax.{w32}
 use mir.ValLaws.{toZ-ofZ}
 use Rattle.state.specs.Apply.{evaluateAt}
 use Rattle.state.specs.State.{identity}
-use Rattle.evaluate.specs.Inner.{tagsAt}
+use Rattle.evaluators.specs.Inner.{tagsAt}
 use Rattle.evaluate.specs.Evaluate.{evaluated}
 use Rattle.reset.proofs.reset_at.Statement.{statement}
 use Rattle.reset.proofs.reset_at.Tie as tie

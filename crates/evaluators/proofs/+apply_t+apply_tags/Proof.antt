@@ -15,22 +15,22 @@ use Rattle.tag.specs.Decode.{f, timesOf, decodeOne, decoders}
 use Rattle.state.specs.State.{withAlphas, withLine, identity}
 use Rattle.state.specs.Mix.{factor}
 use Rattle.state.specs.Apply.{fadAlpha, faded, applyOwn}
-use Rattle.ramp.specs.Inner.{progressBy}
+use Rattle.ramp.specs.Inner.{advanceBy}
 use Rattle.apply.specs.Inner.{fadeMul}
 use Rattle.table.specs.Inner.{part}
 use Rattle.table.proofs.ByKind.{unjoined}
 use Rattle.words.proofs.Laws.{whole}
-use Rattle.evaluate.specs.Inner.{told}
-use Rattle.evaluate.proofs.Checking.{Running, Turned, start, one, kind-refused, none-refused, t-refused, t-room, inner-refused, none-inside, zero-told, within-end, turn-less, plain-turn, t-turn, refused-is, applied-is}
+use Rattle.evaluators.specs.Inner.{told}
+use Rattle.evaluators.proofs.Checking.{Running, Turned, start, one, kind-refused, none-refused, t-refused, t-room, inner-refused, none-inside, zero-told, within-end, turn-less, plain-turn, t-turn, refused-is, applied-is}
 use Prim.Native.Nat.{ℕ, _<_, _+_, _-_, _*_, _^_}
 use borrow.Fn.Kinds.{In}
 use borrow.Fn.PlainCycle.{Measures, is, falls, and}
-use Rattle.evaluate.proofs.apply_t.Reads as apply-t
-use Rattle.evaluate.proofs.apply_t.Kinds as apply-t-kinds
-use Rattle.evaluate.proofs.+apply_t+apply_tags.Lts-apply_t as apply-t-lts
-use Rattle.evaluate.proofs.apply_tags.Reads as apply-tags
-use Rattle.evaluate.proofs.apply_tags.Kinds as apply-tags-kinds
-use Rattle.evaluate.proofs.+apply_t+apply_tags.Lts-apply_tags as apply-tags-lts
+use Rattle.evaluators.proofs.apply_t.Reads as apply-t
+use Rattle.evaluators.proofs.apply_t.Kinds as apply-t-kinds
+use Rattle.evaluators.proofs.+apply_t+apply_tags.Lts-apply_t as apply-t-lts
+use Rattle.evaluators.proofs.apply_tags.Reads as apply-tags
+use Rattle.evaluators.proofs.apply_tags.Kinds as apply-tags-kinds
+use Rattle.evaluators.proofs.+apply_t+apply_tags.Lts-apply_tags as apply-tags-lts
 use Rattle.apply.proofs.above_zero.Reads as above-zero-reads
 use Rattle.apply.proofs.aligned.Reads as aligned-reads
 use Rattle.apply.proofs.all_alphas.Reads as all-alphas-reads
@@ -59,7 +59,7 @@ use Rattle.apply.proofs.wrapped.Reads as wrapped-reads
 use Rattle.float.proofs.f32_of_word.Reads as f32-of-word-reads
 use Rattle.mix.proofs.factor.Reads as factor-reads
 use Rattle.mix.proofs.mix_state.Reads as mix-state-reads
-use Rattle.ramp.proofs.progress.Reads as progress-reads
+use Rattle.ramp.proofs.advance_by.Reads as advance-by-reads
 use Rattle.state.proofs.identity.Reads as identity-reads
 use Rattle.table.proofs.colour_fits.Reads as colour-fits-reads
 use Rattle.table.proofs.drawing_fits.Reads as drawing-fits-reads
@@ -81,8 +81,8 @@ use Rattle.words.proofs.put_from_0.Reads as put-from-0-reads
 use Rattle.words.proofs.put_from_18.Reads as put-from-18-reads
 use Rattle.words.proofs.put_from_44.Reads as put-from-44-reads
 use Rattle.words.proofs.put_from_70.Reads as put-from-70-reads
-use Rattle.evaluate.proofs.+apply_t+apply_tags.{statement}
-use Rattle.evaluate.proofs.+apply_t+apply_tags.Tie.{close}
+use Rattle.evaluators.proofs.+apply_t+apply_tags.{statement}
+use Rattle.evaluators.proofs.+apply_t+apply_tags.Tie.{close}
 
 abbrev μ-apply-t : Measures 5 apply-t-kinds.ps ℕ
 μ-apply-t κs a = 2 * a .1 .1 .0 + 1
@@ -122,8 +122,8 @@ calls-tags t = (
   some-pair-reads.Learnt,
   move-fits-reads.Asked,
   move-fits-reads.Learnt,
-  progress-reads.Asked,
-  progress-reads.Learnt,
+  advance-by-reads.Asked,
+  advance-by-reads.Learnt,
   moved-reads.Asked,
   moved-reads.Learnt,
   float-fits-reads.Asked,
@@ -273,7 +273,7 @@ turn t c =
     ⊎-elim (λ w. plain-turn l h 1 i (w .0 .keys1) (unjoined (w .1 .ensures)) refl (w .2 .taken) (sym (rw (w .5 .ensures ∙ both-seen (λ (x y : ℤ). fadAlpha (r .w1) (r .w2) x y) (seen-t (w .3 .given)) (seen-dur (w .4 .given))))) (w .8) (w .9) (w .10) (w .11))
     (⊎-elim (λ w. plain-turn l h 2 i (w .0 .keys2) (unjoined (w .1 .ensures)) refl (w .2 .taken) (sym (rw (w .4 .ensures ∙ ap (λ (x : ℤ). fadeMul (r .w1) (r .w2) (r .w3) (r .w4) (r .w5) (r .w6) (r .w7) x) (seen-t (w .3 .given))))) (w .7) (w .8) (w .9) (w .10))
     (⊎-elim (λ w. plain-turn l h 3 i (w .0 .keys3) (unjoined (w .1 .ensures)) refl (w .2 .taken) (sym (rw (w .4 .ensures))) (w .5) (w .6) (w .7) (w .8))
-    (⊎-elim (λ w. plain-turn l h 4 i (w .0 .keys4) (w .1 .ensures) refl (w .2 .taken) (sym (rw (w .7 .ensures, w .5 .ensures ∙ both-seen (λ (x y : ℤ). progressBy (r .w5) (r .w6) (r .w7) x y) (seen-t (w .3 .given)) (seen-dur (w .4 .given))))) (w .8) (w .9) (w .10) (w .11))
+    (⊎-elim (λ w. plain-turn l h 4 i (w .0 .keys4) (w .1 .ensures) refl (w .2 .taken) (sym (rw (w .7 .ensures, w .5 .ensures ∙ both-seen (λ (x y : ℤ). advanceBy (r .w5) (r .w6) (r .w7) x y) (seen-t (w .3 .given)) (seen-dur (w .4 .given))))) (w .8) (w .9) (w .10) (w .11))
     (⊎-elim (λ w. plain-turn l h 5 i (w .0 .keys5) (unjoined (w .1 .ensures)) refl (w .2 .taken) (sym (rw (w .3 .ensures))) (w .5) (w .6) (w .7) (w .8))
     (⊎-elim (λ w. plain-turn l h 6 i (w .0 .keys6) (unjoined (w .1 .ensures)) refl (w .2 .taken) (sym (rw (w .3 .ensures))) (w .5) (w .6) (w .7) (w .8))
     (⊎-elim (λ w. plain-turn l h 7 i (w .0 .keys7) (unjoined (w .1 .ensures)) refl (w .2 .taken) (sym (rw (w .3 .ensures))) (w .5) (w .6) (w .7) (w .8))

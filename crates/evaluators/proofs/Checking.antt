@@ -22,8 +22,8 @@ use Rattle.table.specs.Inner.{recordIn, part, Inside, ofKind, stands, tStands}
 use Rattle.table.proofs.ByKind.{of-none}
 use Rattle.table.proofs.Slices.{record-first}
 use Rattle.table.proofs.Faults.{bad-good, none-left, kind-bad, kind-plain, t-as-stands, turn-bad, turn-room, turn-in, turn-past}
-use Rattle.evaluate.specs.Inner.{recordFrom, tagsAt, told, wordsIf, Applied}
-use Rattle.evaluate.proofs.Turns.{Looping, loop-start, loop-done, loop-plain, loop-around, done-at}
+use Rattle.evaluators.specs.Inner.{recordFrom, tagsAt, told, wordsIf, Applied}
+use Rattle.evaluators.proofs.Turns.{Looping, loop-start, loop-done, loop-plain, loop-around, done-at}
 
 -- at the record at with the state post: the first fault from here on is that of all, and the tags from here on make of post what all make of st
 pub record Checking (t dur : ℤ) (ws : List ℕ) (d first count : ℕ) (st : RenderState) (end at : ℕ) (post : RenderState) : Type 0 where

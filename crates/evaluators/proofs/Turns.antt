@@ -19,7 +19,7 @@ use Rattle.tag.proofs.Decoding.{inside-one}
 use Rattle.state.specs.declared.RenderState.{RenderState}
 use Rattle.state.specs.Mix.{factor, between}
 use Rattle.state.specs.Apply.{applyOwn, applyTags}
-use Rattle.evaluate.specs.Inner.{recordFrom, tagsAt, insideOf}
+use Rattle.evaluators.specs.Inner.{recordFrom, tagsAt, insideOf}
 
 -- ---- more steps than records change nothing
 

@@ -1,24 +1,24 @@
 use lib.Signed.{leZ}
 use lib.Ieee.{ofBits}
-use Rattle.state.specs.Mix.{ramp}
+use Rattle.state.specs.Mix.{advance}
 use Rattle.ramp.proofs.Ints.{told, ask, seen, not-le}
-use Rattle.ramp.proofs.ramp.Statement.{statement}
-use Rattle.ramp.proofs.ramp.Tie as tie
+use Rattle.ramp.proofs.advance.Statement.{statement}
+use Rattle.ramp.proofs.advance.Tie as tie
 
 returns : tie.Need-returns
-unfolding ramp ofBits
+unfolding advance ofBits
 returns c = let x = c .before .before .fits in rw (told leZ (x .end) (x .start) (c .before .if1 .taken), told leZ (x .end) (x .t) (c .if2 .taken))
 
 returns-2 : tie.Need-returns-2
-unfolding ramp ofBits
+unfolding advance ofBits
 returns-2 c = let x = c .before .before .fits in rw (told leZ (x .end) (x .start) (c .before .if1 .taken), told leZ (x .end) (x .t) (c .if2 .left))
 
 returns-3 : tie.Need-returns-3
-unfolding ramp ofBits
+unfolding advance ofBits
 returns-3 c = let x = c .before .before .fits in rw (told leZ (x .end) (x .start) (c .before .if1 .left), told leZ (x .t) (x .start) (c .if3 .taken))
 
 returns-4 : tie.Need-returns-4
-unfolding ramp ofBits
+unfolding advance ofBits
 returns-4 c = let x = c .before .before .before .fits in rw (told leZ (x .end) (x .start) (c .before .before .if1 .left), told leZ (x .t) (x .start) (c .before .if3 .left), told leZ (x .end) (x .t) (c .if4 .taken))
 
 passed-requires : tie.Need-passed-requires
@@ -30,11 +30,11 @@ passed-requires c κs =
     (ask leZ (x .start) (x .t) h, ask leZ (x .t) (x .end) k)
 
 returns-5 : tie.Need-returns-5
-unfolding ramp
+unfolding advance
 returns-5 c =
     let q = c .before in
     let x = q .before .before .before .fits in
     rw (told leZ (x .end) (x .start) (q .before .before .if1 .left), told leZ (x .t) (x .start) (q .before .if3 .left), told leZ (x .end) (x .t) (q .if4 .left), c .passed .ensures, seen (x .start), seen (x .end), seen (x .t))
 
-pub ramp-spec : {M : Type 1} → statement M
-ramp-spec = tie.close (tie.spec returns returns-2 returns-3 returns-4 passed-requires returns-5)
+pub advance-spec : {M : Type 1} → statement M
+advance-spec = tie.close (tie.spec returns returns-2 returns-3 returns-4 passed-requires returns-5)
