@@ -1,8 +1,9 @@
--- Demand 3 as one claim: "Two controllers with tables of any sizes and any old contents agree". It speaks of one function that reads a block
--- into two lent tables a and b by the same one of the two reading calls, and asks on both, at the instants t and u of a line that lasts dur
--- milliseconds, for the state and for the next mark: `two_controllers`. What it was told is r; a′ and b′ are the tables afterwards. All that
--- the answers are held to comes from the text, the duration and the instants. The sentences of demand 3 stand beside the fields, in their
--- order; 01 says under "What demand 3 speaks of" what their words mean.
+-- Demand 3 as one claim: "Two controllers with tables of any sizes and any old contents agree". It speaks of one function, `two_controllers`,
+-- that makes the calls of the C interface as hosts do: it reads a block into two lent tables by the same one of the two reading calls, and
+-- asks on both, at the instants t and u of a line that lasts dur milliseconds, for the 92 words of the state and for the next mark. The numbers
+-- that the calls gave are r; what the controllers lent was a and b before, and is a′ and b′ afterwards. All that the answers are held to
+-- comes from the text, the duration and the instants. The sentences of demand 3 stand beside the fields, in their order; 01 says under "What
+-- demand 3 speaks of" what their words mean.
 use mathlib.Core.Path.{_≡_}
 use mathlib.Core.List.{List}
 use mathlib.Core.Bool.{Bool, true, false}
@@ -12,29 +13,23 @@ use lib.Signed.{leZ}
 use Rattle.scan.specs.Scan.{pick}
 use Rattle.lists.specs.declared.Found.{Found}
 use Rattle.lists.specs.declared.Found.the-variants.{Nowhere, At}
-use Rattle.refusal.specs.Refusal.{numberOf, mostPlaces, textGround}
+use Rattle.refusal.specs.Refusal.{numberOf, placeOf, mostPlaces, textGround}
 use Rattle.refusal.specs.declared.Refusal.{Refusal}
-use Rattle.refusal.specs.declared.Refusal.the-variants.{NumeralTooLong, FadeTooFar, NoRoom}
+use Rattle.refusal.specs.declared.Refusal.the-variants.{NumeralTooLong, FadeTooFar}
 use Rattle.refusal.specs.declared.Checked.{Checked}
 use Rattle.refusal.specs.declared.Checked.the-variants.{Good, Bad}
-use Rattle.refusal.specs.declared.Answer.{Answer}
-use Rattle.refusal.specs.declared.Answer.the-variants.{Written, Refused}
 use Rattle.tag.specs.Tag.{Tags, count}
 use Rattle.tag.specs.Table.{placesOf}
-use Rattle.tag.specs.WellFormed.{first}
-use Rattle.tag.specs.Decode.{tagsOf}
+use Rattle.tag.specs.WellFormed.{firstGround}
 use Rattle.read.specs.declared.Span.{Span}
 use Rattle.read.specs.Reading.{wholeText, lessBraces, blockOf}
-use Rattle.table.specs.Ground.{inTime}
-use Rattle.state.specs.declared.RenderState.{RenderState}
+use Rattle.table.specs.Ground.{InTime, timeGround}
 use Rattle.state.specs.Apply.{evaluateAt}
-use Rattle.evaluate.specs.declared.Evaluated.{Evaluated}
-use Rattle.marks.specs.declared.Mark.{Mark}
-use Rattle.marks.specs.declared.Marked.{Marked}
+use Rattle.words.specs.Words.{stateWords}
 use Rattle.marks.specs.Marks.{marks, NoMark, nextMark, Earliest}
-use Rattle.marks.specs.Answer.{marked}
+use Rattle.hannuvel.specs.Packed.{wordGround, Unpacks}
+use Rattle.hannuvel.specs.Instant.{Names}
 use Rattle.animate.specs.declared.Seen.{Seen}
-use Rattle.animate.specs.declared.Told.{Told}
 use Rattle.animate.specs.declared.Both.{Both}
 
 -- ---- from the text alone
@@ -55,11 +50,7 @@ blockGround Nowhere (At p) = Bad (FadeTooFar p)
 blockGround Nowhere Nowhere = Good
 
 unfoldable pub otherGround : List ℕ → Span → Checked
-otherGround s x = first (textGround s) (blockGround (blockOf s x .long) (blockOf s x .far))
-
--- "In range means within ±1,000,000,000"
-abbrev pub InRange : ℤ → Type 0
-InRange z = inTime z ≡ true
+otherGround s x = firstGround (textGround s) (blockGround (blockOf s x .long) (blockOf s x .far))
 
 -- of two instants, which may be equal
 abbrev pub earlier : ℤ → ℤ → ℤ
@@ -68,57 +59,93 @@ earlier t u = pick (leZ t u) t u
 abbrev pub later : ℤ → ℤ → ℤ
 later t u = pick (leZ t u) u t
 
--- ---- what is said of the answers
+-- ---- what a controller lends, and what is said of its answers
 
--- a table with p places for n kept tags: space is lacking exactly when they exceed them, and the count is that of all kept tags
-pub record Space (n p : ℕ) (r : Answer) : Type 0 where
-  pub lacks : p < n → r ≡ Refused (NoRoom n)
-  pub fits : n ≤ p → r ≡ Written n
+-- a table, and 92 words for the state at each of the two instants
+pub record Lent : Type 0 where
+  pub table : List ℕ
+  pub one : List ℕ
+  pub other : List ℕ
+
+abbrev pub lent : List ℕ → List ℕ → List ℕ → Lent
+lent table one other = record { table = table; one = one; other = other }
+
+-- the number w refuses for g: "Refused alike means the same number and place"
+abbrev pub Refuses : ℕ → Refusal → Type 0
+Refuses w g = Unpacks w (numberOf g) 0 (placeOf g)
+
+-- a reading refused for something other than space: that ground comes from the text
+pub record FromText (s : List ℕ) (x : Span) (w : ℕ) : Type 0 where
+  pub ground : Refusal
+  pub stands : otherGround s x ≡ Bad ground
+  pub told : Refuses w ground
+
+abbrev pub OnlyFromText : List ℕ → Span → ℕ → Type 0
+OnlyFromText s x w = ¬ (wordGround w ≡ 0) → ¬ (wordGround w ≡ 9) → FromText s x w
+
+-- a table with p places for n kept tags: space is lacking, ground 9, exactly when they exceed them, and the count is that of all kept tags
+pub record Space (n p w : ℕ) : Type 0 where
+  pub lacks : p < n → Unpacks w 9 0 n
+  pub fits : n ≤ p → Unpacks w 0 0 n
+
+-- of all places of a table 1,024 count
+abbrev pub counted : Lent → ℕ
+counted a = min (placesOf (a .table)) mostPlaces
 
 -- "A table holds a block if the reading into it succeeded": both do
 pub record Hold (r : Both) : Type 0 where
-  pub n : ℕ
-  pub m : ℕ
-  pub first : r .first .reading ≡ Written n
-  pub second : r .second .reading ≡ Written m
+  pub a : wordGround (r .a .reading) ≡ 0
+  pub b : wordGround (r .b .reading) ≡ 0
 
--- both tables' states at an instant
-pub record StateIs (r q : Seen) (st : RenderState) : Type 0 where
-  pub first : r .state ≡ Evaluated.State st
-  pub second : q .state ≡ Evaluated.State st
+-- both calls refuse at an instant, for both controllers alike
+pub record LateAt (g : Refusal) (p q : Seen) : Type 0 where
+  pub a : Refuses (p .evaluated) g × Refuses (p .next) g
+  pub b : Refuses (q .evaluated) g × Refuses (q .next) g
 
--- both tables' next marks after the instant t
-pub record NextIs (l : Tags) (dur t : ℤ) (r q : Seen) (m : Mark) : Type 0 where
-  pub first : r .next ≡ Marked.Next m
-  pub second : q .next ≡ Marked.Next m
-  pub earliest : Earliest (marks dur l) t m
+-- both evaluations answer
+pub record AnswerAt (p q : Seen) : Type 0 where
+  pub a : Unpacks (p .evaluated) 0 0 0
+  pub b : Unpacks (q .evaluated) 0 0 0
+
+-- both next marks after the instant t are the block's earliest later one, or none exactly when it has none
+pub record NextAt (l : Tags) (dur t : ℤ) (p q : Seen) : Type 0 where
+  pub earliest : Earliest (marks dur l) t (nextMark t dur l)
+  pub a : Names (p .next) (nextMark t dur l)
+  pub b : Names (q .next) (nextMark t dur l)
+
+-- ---- where both hold the block whose tags are l, duration and instants being in range
+
+pub record Shown (l : Tags) (t u dur : ℤ) (r : Both) (a′ b′ : Lent) : Type 0 where
+  -- no call is refused
+  pub answered : AnswerAt (r .a .one) (r .b .one) × AnswerAt (r .a .other) (r .b .other)
+  -- "any two instants with no mark between, both tables' states at both instants and the block's own are equal to the bit": no mark of the
+  -- block after the earlier instant and up to the later one
+  pub states : NoMark (marks dur l) (earlier t u) (later t u) →
+      let w = stateWords (evaluateAt t dur l) in
+      (a′ .one ≡ w) × (b′ .one ≡ w) × (a′ .other ≡ w) × (b′ .other ≡ w) × (evaluateAt u dur l ≡ evaluateAt t dur l)
+  -- and with marks between as well, each state is the block's own at that instant
+  pub own :
+      let v = stateWords (evaluateAt t dur l) in
+      let w = stateWords (evaluateAt u dur l) in
+      (a′ .one ≡ v) × (b′ .one ≡ v) × (a′ .other ≡ w) × (b′ .other ≡ w)
+  -- "the next-mark call names the earliest later mark exactly", on these tables that of the block
+  pub next : NextAt l dur t (r .a .one) (r .b .one) × NextAt l dur u (r .a .other) (r .b .other)
 
 -- ---- the claim
 
-pub record Agreed (s : List ℕ) (x : Span) (a b : List ℕ) (t u dur : ℤ) (r : Both) (a′ b′ : List ℕ) : Type 0 where
-  -- "same refusals": refused for anything but space exactly when the text has one of the other grounds, and then alike by both, that is
-  -- with the same number and the same place
-  pub refused : (g : Refusal) → otherGround s x ≡ Bad g → (r .first .reading ≡ Refused g) × (r .second .reading ≡ Refused g)
-  pub only : (g : Refusal) → ¬ (numberOf g ≡ 9) → (r .first .reading ≡ Refused g → otherGround s x ≡ Bad g) × (r .second .reading ≡ Refused g → otherGround s x ≡ Bad g)
+pub record Agreed (s : List ℕ) (x : Span) (a b : Lent) (t u dur : ℤ) (r : Both) (a′ b′ : Lent) : Type 0 where
+  -- "same refusals": refused for anything but space exactly when the text has one of the other grounds, and then alike by both
+  pub refused : (g : Refusal) → otherGround s x ≡ Bad g → Refuses (r .a .reading) g × Refuses (r .b .reading) g
+  pub only : OnlyFromText s x (r .a .reading) × OnlyFromText s x (r .b .reading)
+  -- and where a time is out of range, which only the calls behind the reading look at
+  pub late : Hold r → (g : Refusal) →
+      (timeGround t dur ≡ Bad g → LateAt g (r .a .one) (r .b .one) × (a′ .one ≡ a .one) × (b′ .one ≡ b .one)) ×
+      (timeGround u dur ≡ Bad g → LateAt g (r .a .other) (r .b .other) × (a′ .other ≡ a .other) × (b′ .other ≡ b .other))
   -- "after a refusal lent memory is untouched"
-  pub untouched : (g : Refusal) → (r .first .reading ≡ Refused g → a′ ≡ a) × (r .second .reading ≡ Refused g → b′ ≡ b)
+  pub untouched : (¬ (wordGround (r .a .reading) ≡ 0) → a′ ≡ a) × (¬ (wordGround (r .b .reading) ≡ 0) → b′ ≡ b)
   -- "space refused exactly when kept tags exceed places (1,024 count) with the exact count"
-  pub space : otherGround s x ≡ Good → Space (count (tagsIn s x)) (min (placesOf a) mostPlaces) (r .first .reading) × Space (count (tagsIn s x)) (min (placesOf b) mostPlaces) (r .second .reading)
-  -- "and where both hold the block, for every duration and any two instants with no mark between, both tables' states at both instants and
-  -- the block's own are equal to the bit": no mark of the block after the earlier instant and up to the later one
-  pub states : Hold r → InRange t → InRange u → InRange dur → NoMark (marks dur (tagsIn s x)) (earlier t u) (later t u) →
-      StateIs (r .first .one) (r .second .one) (evaluateAt t dur (tagsIn s x)) × StateIs (r .first .other) (r .second .other) (evaluateAt u dur (tagsIn s x)) × (evaluateAt t dur (tagsIn s x) ≡ evaluateAt u dur (tagsIn s x))
-  -- and with marks between as well, each state is the block's own at that instant
-  pub own : Hold r → InRange t → InRange u → InRange dur →
-      StateIs (r .first .one) (r .second .one) (evaluateAt t dur (tagsIn s x)) × StateIs (r .first .other) (r .second .other) (evaluateAt u dur (tagsIn s x))
-  -- "the next-mark call names the earliest later mark exactly", on these tables that of the block, and none exactly when there is none
-  pub next : Hold r → InRange t → InRange u → InRange dur →
-      NextIs (tagsIn s x) dur t (r .first .one) (r .second .one) (nextMark t dur (tagsIn s x)) × NextIs (tagsIn s x) dur u (r .first .other) (r .second .other) (nextMark u dur (tagsIn s x))
-
--- ---- beside it, for a table that no reading wrote
-
--- 01: "Only for a well-formed table that was not so read are the marks those of the tags, at every depth, that its records stand for". The
--- next-mark call names the earliest later one of these: `exact-next` proves it of every well-formed table.
-pub record Exact (ws : List ℕ) (t dur : ℤ) : Type 0 where
-  pub answer : marked ws t dur ≡ Marked.Next (nextMark t dur (tagsOf ws))
-  pub earliest : Earliest (marks dur (tagsOf ws)) t (nextMark t dur (tagsOf ws))
+  pub space : otherGround s x ≡ Good →
+      let n = count (tagsIn s x) in
+      Space n (counted a) (r .a .reading) × Space n (counted b) (r .b .reading)
+  -- "and where both hold the block, for every duration and any two instants": what they show
+  pub shown : Hold r → InTime t → InTime u → InTime dur → Shown (tagsIn s x) t u dur r a′ b′

@@ -176,5 +176,5 @@ module _ (ws : List ℕ) (t dur : ℤ) {r : ℕ} {m : Marked} (e : m ≡ marked 
   pub marking : (Fine ws t dur → Exact ws t dur m) → MarkingCall ws t dur r
   marking x = record {
     answered = said;
-    exact = λ f. let y = x f in record { mark = y .mark; names = names (y .mark) (rw (y .answer) at s) (rw (sym e ∙ y .answer) at said); earliest = y .earliest };
+    exact = λ f. let y = x f in record { names = names (nextMark t dur (tagsOf ws)) (rw (y .answer) at s) (rw (sym e ∙ y .answer) at said); earliest = y .earliest };
   }

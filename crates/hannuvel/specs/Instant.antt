@@ -9,7 +9,7 @@ use Rattle.table.specs.Ground.{Fine}
 use Rattle.evaluate.specs.Evaluate.{evaluated, groundOf, stateAfter}
 use Rattle.marks.specs.Answer as Marks
 use Rattle.marks.specs.Answer.{marked, markOf}
-use Rattle.marks.specs.Marks.{Interval, marks, Earliest}
+use Rattle.marks.specs.Marks.{Interval, marks, nextMark, Earliest}
 use Rattle.marks.specs.declared.Mark.{Mark}
 use Rattle.marks.specs.declared.Marked.{Marked}
 use Rattle.hannuvel.specs.Packed.{wordValue, Unpacks, Says}
@@ -37,13 +37,12 @@ abbrev pub Names : ℕ → Mark → Type 0
 Names r Mark.None = Unpacks r 0 1 0
 Names r (Mark.At a) = Unpacks r 0 0 (toWord a) × (ofWord (wordValue r) ≡ a)
 
--- that r names the earliest mark after t of those in l, or says that there is none
-pub record NamesEarliest (l : List Interval) (t : ℤ) (r : ℕ) : Type 0 where
-  pub mark : Mark
-  pub names : Names r mark
-  pub earliest : Earliest l t mark
+-- that r names m, or says that there is none, and that m is the earliest mark after t of those in l, or there is none
+pub record NamesEarliest (l : List Interval) (t : ℤ) (r : ℕ) (m : Mark) : Type 0 where
+  pub names : Names r m
+  pub earliest : Earliest l t m
 
 -- what the call says: the number r, and on every well-formed table, both times being in range, the earliest later mark of its tags
 pub record MarkingCall (ws : List ℕ) (t dur : ℤ) (r : ℕ) : Type 0 where
   pub answered : let m = marked ws t dur in Says r (Marks.groundOf m) (markExtra (markOf m)) (markValue (markOf m))
-  pub exact : Fine ws t dur → NamesEarliest (marks dur (tagsOf ws)) t r
+  pub exact : Fine ws t dur → NamesEarliest (marks dur (tagsOf ws)) t r (nextMark t dur (tagsOf ws))

@@ -21,4 +21,4 @@ stands (Bad r) m = record { ground = refl; value = refl }
 
 pub told : (ws : List ℕ) (t dur : ℤ) (r : Marked) → r ≡ marked ws t dur → (r ≡ marked ws t dur) × (MarkStands ws t dur r × (Fine ws t dur → Exact ws t dur r))
 unfolding marked
-told ws t dur r e = (e, (rw e (stands (callGround ws t dur) (nextMark t dur (tagsOf ws))), λ f. record { mark = nextMark t dur (tagsOf ws); answer = e ∙ rw (fine-good ws t dur f); earliest = next-earliest t dur (tagsOf ws) }))
+told ws t dur r e = (e, (rw e (stands (callGround ws t dur) (nextMark t dur (tagsOf ws))), λ f. record { answer = e ∙ rw (fine-good ws t dur f); earliest = next-earliest t dur (tagsOf ws) }))

@@ -37,6 +37,5 @@ MarkStands ws t dur r = Stands (callGround ws t dur) Mark.None (nextMark t dur (
 -- Demand 3, on every well-formed table, read or not: "Only for a well-formed table that was not so read are the marks those of the tags, at
 -- every depth, that its records stand for". The call names the earliest later one of these, or says that there is none exactly where there is none.
 pub record Exact (ws : List ℕ) (t dur : ℤ) (r : Marked) : Type 0 where
-  pub mark : Mark
-  pub answer : r ≡ Marked.Next mark
-  pub earliest : Earliest (marks dur (tagsOf ws)) t mark
+  pub answer : r ≡ Marked.Next (nextMark t dur (tagsOf ws))
+  pub earliest : Earliest (marks dur (tagsOf ws)) t (nextMark t dur (tagsOf ws))

@@ -2,7 +2,7 @@ pub mod Peeling
 pub mod Walk
 pub mod Turn
 pub mod Answer
-pub mod Agree
+pub mod Holds
 pub mod MovedScan
 pub mod MovedNumbers
 pub mod MovedPlain

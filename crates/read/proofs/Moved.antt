@@ -23,14 +23,16 @@ use Rattle.plain.specs.Names.{keyAt, tKey}
 use Rattle.plain.specs.Plain.{One, no, long, kept, far, plainAt}
 use Rattle.read.specs.declared.Head.{Head}
 use Rattle.read.specs.Block.{Got, join, oneGot, paramAt, headAt, Peel, peeled, withHead, peelHead, headEnd, peel, peelTo, tOf, tagAt, walk, tagsIn, tAt, parse}
-use Rattle.read.specs.Moved.{movedPart, movedTag, movedTags, movedFound, moved, movedAnswer, innerText}
+use Rattle.read.specs.Moved.{movedPart, movedTag, movedTags, movedFound, moved, movedAnswer, innerText, AsAlone}
 use Rattle.refusal.specs.Answer.{unlessBad}
-use Rattle.read.specs.Reading.{keptTags, readGround, wholeText, blockOf, answer}
+use Rattle.tag.specs.Table.{placesOf}
+use Rattle.read.specs.Reading.{keptTags, readGround, wholeText, lessBraces, blockOf, answer, Answered}
 use Rattle.refusal.specs.Refusal.{mostPlaces, textGround}
 use Rattle.refusal.specs.declared.Refusal.the-variants.{NoRoom}
+use Rattle.refusal.specs.declared.Answer.{Answer}
 use Rattle.refusal.specs.declared.Answer.the-variants.{Written, Refused}
 use Rattle.read.specs.declared.Span.{Span}
-use Rattle.read.proofs.Parts.{SpanIn}
+use Rattle.read.proofs.Parts.{SpanIn, braces-in}
 use Rattle.read.proofs.MovedScan.{Window, On, either, if-lt, on, next, gap, ltb-on, eqb-on, byte, span-on, closing-on, past-on, trim-start-on}
 use Rattle.read.proofs.MovedNumbers.{movedF32, f32-on}
 use Rattle.read.proofs.MovedPlain.{movedOne, key-at-on, plain-on}
@@ -227,3 +229,7 @@ module _ (s : List ℕ) (x : Span) (inside : SpanIn s x) where
   answer-inside places =
       let g = blockOf inner (wholeText inner) in
       rw (block-inside, kept-moved (x .from) g, ground-moved (x .from) (g .long) (g .far) (keptTags g) places)
+
+-- so the second call says it beside its answer
+pub raw-said : (s : List ℕ) {t u : List ℕ} {r : Answer} → Answered s (lessBraces s) t r u → Answered s (lessBraces s) t r u × AsAlone s (lessBraces s) (placesOf t) r
+raw-said s {t} a = (a, record { block = block-inside s (lessBraces s) (braces-in s); answer = a .reading ∙ answer-inside s (lessBraces s) (braces-in s) (placesOf t) })

@@ -1,6 +1,6 @@
 pub mod Block
 pub mod Reading
 pub mod Inner
-pub mod Agreement
+pub mod Holds
 pub mod Sheet
 pub mod Moved

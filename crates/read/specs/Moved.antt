@@ -1,4 +1,5 @@
--- 01, offsets count from the text given: what a block gives that stands k bytes further on in a longer text.
+-- 01, Braces: "its offsets still count from the text given". What a block gives that stands k bytes further on in a longer text.
+use mathlib.Core.Path.{_≡_}
 use mathlib.Core.List.{List}
 use Prim.Native.Nat.{ℕ, _+_, _-_}
 use lib.Dec.{eqb}
@@ -12,7 +13,10 @@ use Rattle.read.specs.declared.Span.{Span}
 use Rattle.lists.specs.declared.Found.{Found}
 use Rattle.lists.specs.declared.Found.the-variants.{Nowhere, At}
 use Rattle.tag.specs.Tag.{Part, AnimatedTag, Tags, none, and, foldTag, mapOwn, mapParts}
+use Rattle.refusal.specs.Refusal.{textGround}
+use Rattle.refusal.specs.Answer.{unlessBad}
 use Rattle.read.specs.Block.{Got}
+use Rattle.read.specs.Reading.{wholeText, blockOf, keptTags, readGround}
 
 -- an empty part has offset 0 wherever it stands
 abbrev pub movedPart : ℕ → Part → Part
@@ -52,3 +56,12 @@ movedAnswer k (Refused r) = Refused (movedRefusal k r)
 -- the part x of a text, as a text of its own
 abbrev pub innerText : List ℕ → Span → List ℕ
 innerText s x = take (x .to - x .from) (drop (x .from) s)
+
+-- What a call that reads the part x of the text s into a table says: block and answer r are those of that part alone, places moved on; grounds 1
+-- and 2 look at the text given.
+pub record AsAlone (s : List ℕ) (x : Span) (places : ℕ) (r : Answer) : Type 0 where
+  pub block : let i = innerText s x in blockOf s x ≡ moved (x .from) (blockOf i (wholeText i))
+  pub answer :
+      let i = innerText s x in
+      let g = blockOf i (wholeText i) in
+      r ≡ unlessBad (textGround s) (movedAnswer (x .from) (readGround (g .long) (g .far) (keptTags g) places))

@@ -4,9 +4,10 @@ ghost use Prim.Native.Nat.{_+_, _-_, _*_, _^_, _≤_, _<_};
 ghost use lib.ListN.{length};
 ghost use Rattle.refusal.specs.Refusal.{textGround};
 ghost use Rattle.refusal.specs.declared.Checked.the-variants.{Good};
-ghost use Rattle.tag.specs.Table.{laid};
+ghost use Rattle.tag.specs.Table.{placesOf, laid};
 ghost use Rattle.read.specs.Block.{paramAt, nameEnd, headAt, peelTo, tagAt, tAt, parse};
 ghost use Rattle.read.specs.Reading.{readGround, wholeText, lessBraces, Answered};
+ghost use Rattle.read.specs.Moved.{AsAlone};
 ghost use Rattle.read.specs.Inner.{HeadIn, headed, tWords, Peels, keptRecords, keptGot, joinedOut, aroundOut, Told, BraceEnd};
 
 // A tag: where its name begins and ends, its parameter from p to q, and the place behind both.
@@ -453,6 +454,7 @@ fn brace_end(text: &[u8], p: usize, b: usize) -> usize
 // 01, Braces: trims, then drops one { and one }.
 pub fn parse_raw_block(text: &[u8], table: &mut [u32]) -> refusal::Answer
     ensures { λ r. ⌜ Answered (now (text .entry)) (lessBraces (now (text .entry))) (now (table .entry)) r (now (table .exit)) ⌝ }
+    ensures { λ r. ⌜ AsAlone (now (text .entry)) (lessBraces (now (text .entry))) (placesOf (now (table .entry))) r ⌝ }
 {
     let a = scan::trim_start(text, 0, text.len());
     let b = scan::trim_end(text, a, text.len());

@@ -1,4 +1,3 @@
-use mathlib.Core.Path.{_≡_, refl, sym, ap, _∙_}
 use mathlib.Core.List.{List}
 use mathlib.Core.Bool.{Bool, true, false}
 use Prim.Native.Nat.{ℕ}
@@ -18,9 +17,9 @@ span-in false s = whole-in s
 
 returns : tie.Need-returns
 returns c =
-    let s = c .before .before .before .before .before .before .before .before .before .before .before in
+    let s = c .before .before .before .before .before .before .before .before .before .before .before .before .before .before .before in
     let a = s .args in
-    let p = rw (toZ-ofZ w32 (a .t) (s .fits .t), toZ-ofZ w32 (a .u) (s .fits .u), toZ-ofZ w32 (a .dur) (s .fits .dur)) at (c .before .before .before .before .before .before .controller .ensures) in
+    let p = rw (toZ-ofZ w32 (a .t) (s .fits .t), toZ-ofZ w32 (a .u) (s .fits .u), toZ-ofZ w32 (a .dur) (s .fits .dur)) at (c .before .before .before .before .before .before .before .before .controller .ensures) in
     let q = rw (toZ-ofZ w32 (a .t) (s .fits .t), toZ-ofZ w32 (a .u) (s .fits .u), toZ-ofZ w32 (a .dur) (s .fits .dur)) at (c .before .before .controller2 .ensures) in
     (agreed (a .text .now) (spanOf (a .raw) (a .text .now)) (span-in (a .raw) (a .text .now)) (a .t) (a .u) (a .dur) p q, (p, q))
 

@@ -1,5 +1,6 @@
 use Rattle.read.specs.Reading.{lessBraces}
 use borrow.Author.Needs.{needs}
+use Rattle.read.proofs.Moved.{raw-said}
 use Rattle.read.proofs.parse_raw_block.Statement.{statement}
 use Rattle.read.proofs.parse_raw_block.Tie as tie
 
@@ -10,7 +11,7 @@ returns c =
     let b = c .before .before .before .before .before .before .trim-end .ensures .is in
     let p = c .before .before .before .before .before .past .ensures .is in
     let q = c .before .before .before .before .brace-end .ensures .is in
-    rw (← a, ← b, ← p, ← q) (c .before .before .read-span .ensures)
+    raw-said (c .before .before .before .before .before .before .before .before .before .before .args .text .now) (rw (← a, ← b, ← p, ← q) (c .before .before .read-span .ensures))
 
 pub parse-raw-block-spec : {M : Type 1} → statement M
 parse-raw-block-spec =

@@ -1,4 +1,4 @@
--- Two tables agree on a block: every pair of tables, every text, both reading calls.
+-- A table holds the block that was read into it: every table, every text, both reading calls.
 use mathlib.Core.Path.{_≡_, refl, sym, ap, _∙_}
 use mathlib.Core.List.{List}
 use mathlib.Core.Bool.{Bool, true, false}
@@ -28,13 +28,9 @@ use Rattle.refusal.specs.Answer.{roomFor, unlessBad}
 use Rattle.read.specs.Reading.{readGround, blockOf, keptTags, answer, after}
 use Rattle.tag.specs.Table.{placesOf}
 use Rattle.refusal.specs.Refusal.{textGround}
-use Rattle.read.specs.Agreement.{Readable, written, Holds, Agreement}
+use Rattle.read.specs.Holds.{written, Holds}
 use Rattle.read.proofs.Parts.{SpanIn}
 use Rattle.read.proofs.Ranges.{block-sound}
-
--- a reading is no refusal
-read-not-refused : (n : ℕ) (r : Refusal) → Written n ≡ Refused r → ⊥
-read-not-refused n r e = let z : _≡_ {A = ℕ} 0 1 = cc in omega arith
 
 refused-not-read : (n : ℕ) (r : Refusal) → Refused r ≡ Written n → ⊥
 refused-not-read n r e = let z : _≡_ {A = ℕ} 0 1 = cc in omega arith
@@ -43,41 +39,7 @@ refused-not-read n r e = let z : _≡_ {A = ℕ} 0 1 = cc in omega arith
 abbrev out : Checked → Found → Found → ℕ → ℕ → Answer
 out c l f n p = unlessBad c (readGround l f n p)
 
-alike-out : (c : Checked) (l f : Found) (n p q : ℕ) (r : Refusal) → ¬ (numberOf r ≡ 9) → out c l f n p ≡ Refused r → out c l f n q ≡ Refused r
-unfolding readGround
-alike-out (Bad b) l f n p q r h e = e
-alike-out Good (At a) f n p q r h e = e
-alike-out Good Nowhere (At a) n p q r h e = e
-alike-out Good Nowhere Nowhere n p q r h e = go (leb n (min p mostPlaces)) refl e
-  where
-    go : (b : Bool) → leb n (min p mostPlaces) ≡ b → pick b (Written n) (Refused (NoRoom n)) ≡ Refused r → out Good Nowhere Nowhere n q ≡ Refused r
-    go true z e = absurd (read-not-refused n r e)
-    go false z e =
-        let y : NoRoom n ≡ r = cc in
-        absurd (h (ap numberOf (sym y)))
-
--- what stands behind a refusal for space
-record Lacking (c : Checked) (l f : Found) (n m p : ℕ) : Type 0 where
-  text : c ≡ Good
-  numerals : l ≡ Nowhere
-  fades : f ≡ Nowhere
-  count : m ≡ n
-  more : min p mostPlaces < n
-
-lacking-out : (c : Checked) (l f : Found) (n m p : ℕ) → ((b : Refusal) → c ≡ Bad b → ¬ (numberOf b ≡ 9)) → out c l f n p ≡ Refused (NoRoom m) → Lacking c l f n m p
-unfolding readGround
-lacking-out (Bad b) l f n m p h e =
-    let y : b ≡ NoRoom m = cc in
-    absurd (h b refl (ap numberOf y))
-lacking-out Good (At a) f n m p h e = absurd (let z : _≡_ {A = ℕ} 0 1 = cc in omega arith)
-lacking-out Good Nowhere (At a) n m p h e = absurd (let z : _≡_ {A = ℕ} 0 1 = cc in omega arith)
-lacking-out Good Nowhere Nowhere n m p h e = go (leb n (min p mostPlaces)) refl e
-  where
-    go : (b : Bool) → leb n (min p mostPlaces) ≡ b → pick b (Written n) (Refused (NoRoom n)) ≡ Refused (NoRoom m) → Lacking Good Nowhere Nowhere n m p
-    go true z e = absurd (read-not-refused n (NoRoom m) e)
-    go false z e = record { text = refl; numerals = refl; fades = refl; count = cc; more = leb-false n (min p mostPlaces) z }
-
--- and behind a reading
+-- what stands behind a reading
 read-out : (c : Checked) (l f : Found) (n m p : ℕ) → out c l f n p ≡ Written m → (m ≡ n) × (n ≤ min p mostPlaces)
 unfolding readGround
 read-out (Bad b) l f n m p e = absurd (refused-not-read m b e)
@@ -89,22 +51,6 @@ read-out Good Nowhere Nowhere n m p e = go (leb n (min p mostPlaces)) refl e
     go true z e = (cc, leb-true n (min p mostPlaces) z)
     go false z e = absurd (refused-not-read m (NoRoom n) e)
 
--- the grounds on the text are 1 and 2
-text-ground : (s : List ℕ) (b : Refusal) → textGround s ≡ Bad b → ¬ (numberOf b ≡ 9)
-unfolding textGround
-text-ground s b e = go (ltb mostBytes (length s)) (ltb (spanTo (inClass (Below 128)) s 0 (length s)) (length s)) e
-  where
-    go : (u v : Bool) → pick u (Bad TextTooLong) (pick v (Bad (NotAscii (spanTo (inClass (Below 128)) s 0 (length s)))) Good) ≡ Bad b → ¬ (numberOf b ≡ 9)
-    go true v e h =
-        let z : b ≡ TextTooLong = cc in
-        let w : _≡_ {A = ℕ} 1 9 = sym (ap numberOf z) ∙ h in
-        omega arith
-    go false true e h =
-        let z : b ≡ NotAscii (spanTo (inClass (Below 128)) s 0 (length s)) = cc in
-        let w : _≡_ {A = ℕ} 2 9 = sym (ap numberOf z) ∙ h in
-        omega arith
-    go false false e h = absurd (let z : _≡_ {A = ℕ} 0 1 = cc in omega arith)
-
 module _ (s : List ℕ) (x : Span) where
   abbrev kept : ℕ
   kept = keptTags (blockOf s x)
@@ -112,14 +58,6 @@ module _ (s : List ℕ) (x : Span) where
   is-out : (p : ℕ) → answer s x p ≡ out (textGround s) (blockOf s x .long) (blockOf s x .far) kept p
   unfolding answer
   is-out p = refl
-
-  lacking : (p n : ℕ) → answer s x p ≡ Refused (NoRoom n) → Lacking (textGround s) (blockOf s x .long) (blockOf s x .far) kept n p
-  lacking p n e = lacking-out (textGround s) (blockOf s x .long) (blockOf s x .far) kept n p (text-ground s) (sym (is-out p) ∙ e)
-
-  -- a readable block is read or lacks space
-  readable : (p : ℕ) → Readable s x → answer s x p ≡ roomFor kept p
-  unfolding readGround
-  readable p h = is-out p ∙ rw (h .text, h .numerals, h .fades)
 
   -- what the records that a reading wrote are
   wrote : (t : List ℕ) (n : ℕ) → answer s x (placesOf t) ≡ Written n → (n ≡ kept) × (written n (after s x t) ≡ tableWords (encode (blockOf s x .tags)))
@@ -155,19 +93,3 @@ module _ (s : List ℕ) (x : Span) where
         formed = rw w (words-formed (encode l) (omega (arith, g .2, count-length l)) (sound-ranges h) (sound-nested h));
         tags = rw w (words-back h);
       }
-
-pub agreement : (s : List ℕ) (x : Span) (t u : List ℕ) → Agreement s x t u
-agreement s x t u =
-    record {
-      alike = λ r h e. is-out s x (placesOf u) ∙ alike-out (textGround s) (blockOf s x .long) (blockOf s x .far) (kept s x) (placesOf t) (placesOf u) r h (sym (is-out s x (placesOf t)) ∙ e);
-      lacking = λ n e.
-          let l = lacking s x (placesOf t) n e in
-          (record { text = l .text; numerals = l .numerals; fades = l .fades }, l .count, l .more);
-      lacks = λ h k. readable s x (placesOf t) h ∙ rw (lt-leb (kept s x) (min (placesOf t) mostPlaces) k);
-      fits = λ h k. readable s x (placesOf t) h ∙ rw (le-leb (kept s x) (min (placesOf t) mostPlaces) k);
-      same = λ n m e f.
-          let a = wrote s x t n e in
-          let b = wrote s x u m f in
-          let z : n ≡ m = a .0 ∙ sym (b .0) in
-          (z, a .1 ∙ sym (rw z (b .1)));
-    }
