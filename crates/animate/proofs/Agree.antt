@@ -3,7 +3,7 @@ use mathlib.Core.Path.{_≡_, refl, sym, ap, _∙_}
 use mathlib.Core.List.{List}
 use mathlib.Core.Logic.{⊎-elim}
 use mathlib.Core.Bool.{Bool, true, false}
-use Prim.Native.Nat.{ℕ, zero, suc, _*_, _≤_, _<_, min}
+use Prim.Native.Nat.{ℕ, zero, suc, _≤_, _<_, min}
 use native.Mathlib.Omega.{arith}
 use lib.Dec.{leb}
 use lib.IntN.{ℤ}
@@ -15,8 +15,8 @@ use Rattle.scan.specs.Scan.{pick}
 use Rattle.scan.proofs.Laws.{le-or-lt}
 use Rattle.lists.specs.declared.Found.{Found}
 use Rattle.lists.specs.declared.Found.the-variants.{Nowhere, At}
-use Rattle.refusal.specs.Refusal.{numberOf, placeOf, mostPlaces, textGround}
-use Rattle.refusal.specs.Answer.{numberIn, groundOf, answerValue, roomFor, unlessBad, tableAfter}
+use Rattle.refusal.specs.Refusal.{numberOf, mostPlaces, textGround}
+use Rattle.refusal.specs.Answer.{firstGround, roomFor, unlessBad}
 use Rattle.refusal.specs.declared.Refusal.{Refusal}
 use Rattle.refusal.specs.declared.Refusal.the-variants.{TextTooLong, NotAscii, NumeralTooLong, FadeTooFar, TableMalformed, TimeOutOfRange, ScaleTooLarge, NameBeyondText, NoRoom}
 use Rattle.refusal.specs.declared.Checked.{Checked}
@@ -24,12 +24,11 @@ use Rattle.refusal.specs.declared.Checked.the-variants.{Good, Bad}
 use Rattle.refusal.specs.declared.Answer.{Answer}
 use Rattle.refusal.specs.declared.Answer.the-variants.{Written, Refused}
 use Rattle.tag.specs.Tag.{Tags, count}
-use Rattle.tag.specs.Table.{width, placesOf}
-use Rattle.tag.specs.WellFormed.{WellFormed, firstGround}
+use Rattle.tag.specs.Table.{placesOf}
 use Rattle.tag.proofs.Formed.{formed-ground}
 use Rattle.read.specs.declared.Span.{Span}
 use Rattle.read.specs.Reading.{readGround, blockOf, answer, after}
-use Rattle.read.specs.Holds.{written, Holds}
+use Rattle.read.specs.Holds.{Holds}
 use Rattle.read.proofs.Parts.{SpanIn}
 use Rattle.read.proofs.Holds.{holds}
 use Rattle.read.proofs.Places.{few-read}
@@ -41,17 +40,17 @@ use Rattle.evaluate.specs.declared.Evaluated.{Evaluated}
 use Rattle.evaluate.specs.Evaluate.{evaluated}
 use Rattle.marks.specs.declared.Marked.{Marked}
 use Rattle.marks.specs.Answer.{marked}
-use Rattle.marks.specs.Marks.{marks, NoMark, Earliest, nextMark}
+use Rattle.marks.specs.Marks.{marks, NoMark, nextMark}
 use Rattle.marks.proofs.Earliest.{next-earliest}
 use Rattle.marks.proofs.Same.{same-at}
 use Rattle.marks.proofs.Order.{leZ-true, leZ-false, <ℤ-≤ℤ}
-use Rattle.hannuvel.specs.Packed.{wordGround, wordValue, Unpacks, SaysAnswer, ReadingCall}
-use Rattle.hannuvel.specs.Instant.{Names, NamesEarliest, EvaluatingCall, MarkingCall}
+use Rattle.hannuvel.specs.Packed.{wordGround, wordValue, Unpacks, SaysAnswer}
+use Rattle.hannuvel.specs.Instant.{Names}
 use Rattle.animate.specs.declared.Seen.{Seen}
 use Rattle.animate.specs.declared.Told.{Told}
 use Rattle.animate.specs.declared.Both.{Both}
-use Rattle.animate.specs.Claim.{tagsIn, blockGround, otherGround, earlier, later, Lent, lent, Refuses, FromText, OnlyFromText, Space, counted, Hold, LateAt, AnswerAt, NextAt, Shown, Agreed}
-use Rattle.animate.specs.Inner.{wordsIn, recordsIn, Saw, Ran}
+use Rattle.animate.specs.Claim.{tagsIn, blockGround, otherGround, earlier, later, Lent, lent, Refuses, FromText, OnlyFromText, Space, counted, Hold, LateAt, Shown, Agreed}
+use Rattle.animate.specs.Inner.{recordsIn, Saw, Ran}
 
 -- ---- refusals and space
 

@@ -4,6 +4,7 @@
 -- that the calls gave are r; what the controllers lent was a and b before, and is a′ and b′ afterwards. All that the answers are held to
 -- comes from the text, the duration and the instants. The sentences of demand 3 stand beside the fields, in their order; 01 says under "What
 -- demand 3 speaks of" what their words mean.
+use Rattle.refusal.specs.Answer.{firstGround}
 use mathlib.Core.Path.{_≡_}
 use mathlib.Core.List.{List}
 use mathlib.Core.Bool.{Bool, true, false}
@@ -20,7 +21,6 @@ use Rattle.refusal.specs.declared.Checked.{Checked}
 use Rattle.refusal.specs.declared.Checked.the-variants.{Good, Bad}
 use Rattle.tag.specs.Tag.{Tags, count}
 use Rattle.tag.specs.Table.{placesOf}
-use Rattle.tag.specs.WellFormed.{firstGround}
 use Rattle.read.specs.declared.Span.{Span}
 use Rattle.read.specs.Reading.{wholeText, lessBraces, blockOf}
 use Rattle.table.specs.Ground.{InTime, timeGround}

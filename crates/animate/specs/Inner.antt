@@ -1,7 +1,7 @@
 -- One controller's calls, in the code's words.
 use mathlib.Core.Path.{_≡_}
 use mathlib.Core.List.{List}
-use Prim.Native.Nat.{ℕ, _*_, _≤_, _<_, min}
+use Prim.Native.Nat.{ℕ, _*_, _<_, min}
 use lib.IntN.{ℤ}
 use lib.ListN.{take}
 use Rattle.refusal.specs.Refusal.{mostPlaces}

@@ -1,6 +1,6 @@
 // Alphas and colours as a tag writes them, in hexadecimal.
 ghost use mathlib.Core.Path.{_≡_};
-ghost use Prim.Native.Nat.{_+_, _-_, _≤_, _<_, min};
+ghost use Prim.Native.Nat.{_+_, _-_, _≤_};
 ghost use lib.ListN.{length};
 ghost use Rattle.colour.specs.Colour.{trimmed as trimmedTo, ampersands as ampersandsTo, zeroXAt, digits, cap, rgb, alphaAt, colourAt};
 ghost use Rattle.colour.specs.Inner.{Inside};

@@ -6,13 +6,13 @@ use Prim.Native.Nat.{ℕ, zero, suc, _-_, _≤_, _<_, min}
 use native.Mathlib.Omega.{arith}
 use lib.IntN.{ℤ}
 use Rattle.refusal.specs.Refusal.{mostPlaces}
-use Rattle.refusal.specs.Answer.{Stands}
+use Rattle.refusal.specs.Answer.{firstGround, Stands}
 use Rattle.refusal.specs.declared.Checked.{Checked}
 use Rattle.refusal.specs.declared.Checked.the-variants.{Good, Bad}
 use Rattle.refusal.specs.declared.Refusal.{Refusal}
 use Rattle.refusal.specs.declared.Refusal.the-variants.{TableMalformed}
 use Rattle.tag.specs.Table.{placesOf}
-use Rattle.tag.specs.WellFormed.{firstGround, excess, tableGround}
+use Rattle.tag.specs.WellFormed.{excess, tableGround}
 use Rattle.tag.specs.Decode.{tagsOf}
 use Rattle.state.specs.declared.RenderState.{RenderState}
 use Rattle.state.specs.State.{identity}
@@ -22,8 +22,8 @@ use Rattle.table.proofs.Slices.{length-records}
 use Rattle.table.proofs.Grounds.{table-found, good-fine}
 use Rattle.words.specs.Words.{stateWords}
 use Rattle.evaluate.specs.declared.Evaluated.{Evaluated}
-use Rattle.evaluators.specs.Inner.{tagsAt, told, wordsIf, AppliedAll}
-use Rattle.evaluate.specs.Inner.{isGood}
+use Rattle.evaluators.specs.Inner.{tagsAt, told, wordsIf}
+use Rattle.evaluate.specs.Inner.{isGood, AppliedAll}
 use Rattle.evaluate.specs.Evaluate.{evaluatedOr, evaluated, groundOf, stateOf, StateStands, stateAfter, InWords}
 
 module _ {t dur : ℤ} {ws : List ℕ} {write : Bool} {v u : List ℕ} {r : RenderState} {x : ℕ} (a : AppliedAll t dur ws write v r x u) where

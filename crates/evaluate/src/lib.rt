@@ -1,6 +1,6 @@
 // The state of a table's tags at an instant: `evaluate_at` of the Rust, by value and as the 92 words of the C interface.
 ghost use mathlib.Core.Path.{_≡_};
-ghost use Rattle.evaluate.specs.Inner.{isGood};
+ghost use Rattle.evaluate.specs.Inner.{isGood, AppliedAll};
 ghost use Rattle.evaluate.specs.Evaluate.{evaluated, StateStands, InWords};
 use refusal::Checked;
 use refusal::Refusal;
@@ -21,6 +21,25 @@ fn good(c: Checked) -> bool
     }
 }
 
+// All records, from `identity` on. The state comes back to where it was given from: a second one would take its room on the stack.
+fn apply_all(
+    table: &[u32],
+    t: &i32,
+    dur: &i32,
+    write: bool,
+    fault: &mut usize,
+    out: &mut [u32; 92],
+) -> RenderState
+    ensures { λ r. ⌜ AppliedAll (now (t .entry)) (now (dur .entry)) (now (table .entry)) write (now (out .entry)) r (now (fault .exit)) (now (out .exit)) ⌝ }
+{
+    let words = table;
+    let end = scan::least(words.len() / 8, 1024);
+    *fault = 0;
+    let mut st = state::identity();
+    st = evaluators::apply_tags(words, 0, end, 8, st, t, dur, write, fault, out);
+    st
+}
+
 // 01, Evaluation: the state at t of the tags that the table stands for, in a line of dur milliseconds.
 pub fn evaluate_at(table: &[u32], t: i32, dur: i32) -> Evaluated
     ensures { λ r. ⌜ r ≡ evaluated (now (table .entry)) t dur ⌝ }
@@ -28,7 +47,7 @@ pub fn evaluate_at(table: &[u32], t: i32, dur: i32) -> Evaluated
 {
     let mut fault: usize = 0;
     let mut unwritten = [0; 92];
-    let st = evaluators::apply_all(table, &t, &dur, false, &mut fault, &mut unwritten);
+    let st = apply_all(table, &t, &dur, false, &mut fault, &mut unwritten);
     if fault > 0 {
         return Evaluated::Refused(Refusal::TableMalformed(fault - 1));
     }
@@ -45,7 +64,7 @@ pub fn write_at(table: &[u32], t: i32, dur: i32, state: &mut [u32; 92]) -> Check
 {
     let late = table::after_records(table, t, dur);
     let mut fault: usize = 0;
-    evaluators::apply_all(table, &t, &dur, good(late), &mut fault, state);
+    apply_all(table, &t, &dur, good(late), &mut fault, state);
     if fault > 0 {
         return Checked::Bad(Refusal::TableMalformed(fault - 1));
     }

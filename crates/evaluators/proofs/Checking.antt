@@ -21,7 +21,8 @@ use Rattle.apply.proofs.Keys.{Missed, from, past}
 use Rattle.table.specs.Inner.{recordIn, part, Inside, ofKind, stands, tStands}
 use Rattle.table.proofs.ByKind.{of-none}
 use Rattle.table.proofs.Slices.{record-first}
-use Rattle.table.proofs.Faults.{bad-good, none-left, kind-bad, kind-plain, t-as-stands, turn-bad, turn-room, turn-in, turn-past}
+use Rattle.tag.proofs.Formed.{bad-good}
+use Rattle.table.proofs.Faults.{none-left, kind-bad, kind-plain, t-as-stands, turn-bad, turn-room, turn-in, turn-past}
 use Rattle.evaluators.specs.Inner.{recordFrom, tagsAt, told, wordsIf, Applied}
 use Rattle.evaluators.proofs.Turns.{Looping, loop-start, loop-done, loop-plain, loop-around, done-at}
 

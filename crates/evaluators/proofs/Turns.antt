@@ -10,7 +10,7 @@ use lib.ListN.{length, take, drop, length-take, length-drop}
 use lib.Seq.{drop-drop}
 use borrow.Author.Tests.{eq-eqb, ne-eqb, leb-true, leb-false}
 use Rattle.tag.specs.declared.Record.{Record}
-use Rattle.tag.specs.Tag.{Tags, none, and, inside}
+use Rattle.tag.specs.Tag.{Tags, none, and}
 use Rattle.tag.specs.Table.{width}
 use Rattle.tag.specs.WellFormed.{recordAt, recordsTo, tKind, holds}
 use Rattle.tag.specs.Decode.{f, timesOf, decodeOne, decodeT, decodeIn, decode}

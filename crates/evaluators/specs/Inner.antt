@@ -5,18 +5,16 @@ use mathlib.Core.List.{List}
 use Prim.Native.Nat.{ℕ, zero, suc, _*_, min}
 use lib.IntN.{ℤ}
 use lib.ListN.{drop}
-use Rattle.refusal.specs.Refusal.{mostPlaces}
 use Rattle.refusal.specs.declared.Checked.{Checked}
 use Rattle.refusal.specs.declared.Checked.the-variants.{Good, Bad}
 use Rattle.refusal.specs.declared.Refusal.the-variants.{TableMalformed}
 use Rattle.tag.specs.declared.Record.{Record}
-use Rattle.tag.specs.Tag.{Tags, mostDepth}
-use Rattle.tag.specs.Table.{width, placesOf}
+use Rattle.tag.specs.Tag.{Tags}
+use Rattle.tag.specs.Table.{width}
 use Rattle.tag.specs.WellFormed.{recordAt, recordsTo, holds, fault}
 use Rattle.tag.specs.Decode.{decode}
 use Rattle.table.specs.Inner.{part}
 use Rattle.state.specs.declared.RenderState.{RenderState}
-use Rattle.state.specs.State.{identity}
 use Rattle.state.specs.Apply.{applyTags}
 use Rattle.words.specs.Words.{stateWords}
 
@@ -48,7 +46,3 @@ pub record Applied (t dur : ℤ) (ws : List ℕ) (first count d : ℕ) (st : Ren
   pub ground : told x ≡ fault d first (part ws first count)
   pub state : told x ≡ Good → r ≡ applyTags t dur (tagsAt ws first count) st
   pub words : u ≡ wordsIf write (told x) r v
-
--- what it leaves of a whole table, from `identity` on
-abbrev pub AppliedAll : ℤ → ℤ → List ℕ → Bool → List ℕ → RenderState → ℕ → List ℕ → Type 0
-AppliedAll t dur ws write v r x u = Applied t dur ws 0 (min (placesOf ws) mostPlaces) mostDepth identity write v r x u

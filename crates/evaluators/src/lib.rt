@@ -3,7 +3,7 @@ ghost use mathlib.Core.Path.{_≡_};
 ghost use mathlib.Core.Bool.{false};
 ghost use Prim.Native.Nat.{_+_, _-_, _<_};
 ghost use Rattle.table.specs.Inner.{Inside};
-ghost use Rattle.evaluators.specs.Inner.{Applied, AppliedAll};
+ghost use Rattle.evaluators.specs.Inner.{Applied};
 use apply::times::fad_alpha;
 use apply::values::both;
 use apply::values::byte;
@@ -45,7 +45,7 @@ fn apply_t(
 // The tags of the `count` records from `first` on, one after the other, with `deep` more levels of T allowed. A record is checked in the arm of
 // its kind and then applied, one field of the state in place; the first at fault ends it, and `fault` then holds its index and 1, which is 0
 // before. Behind the last record the words of the state are written from here, if they are asked for: a state that is handed on is copied.
-fn apply_tags(
+pub fn apply_tags(
     table: &[u32],
     first: usize,
     count: usize,
@@ -527,23 +527,4 @@ fn apply_tags(
         words::put_from_70(out, post);
     }
     post
-}
-
-// All records, from `identity` on. The state comes back to where it was given from: a second one would take its room on the stack.
-pub fn apply_all(
-    table: &[u32],
-    t: &i32,
-    dur: &i32,
-    write: bool,
-    fault: &mut usize,
-    out: &mut [u32; 92],
-) -> RenderState
-    ensures { λ r. ⌜ AppliedAll (now (t .entry)) (now (dur .entry)) (now (table .entry)) write (now (out .entry)) r (now (fault .exit)) (now (out .exit)) ⌝ }
-{
-    let words = table;
-    let end = scan::least(words.len() / 8, 1024);
-    *fault = 0;
-    let mut st = state::identity();
-    st = apply_tags(words, 0, end, 8, st, t, dur, write, fault, out);
-    st
 }

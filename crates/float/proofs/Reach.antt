@@ -7,12 +7,11 @@ use mathlib.Core.Bool.{Bool, true, false, not, cond, _&&_, _||_}
 use lib.IntN.{ℤ, pos, negℤ, natAbs}
 use lib.Signed.{nonNeg}
 use lib.Dec.{T, lit<, ltb, eqb, lt→ltb, ltb→lt, eqb→eq, eqb-refl}
-use lib.Ieee.{Float, nan, inf, fin, Format, binary32, prec, emax, low, up, down, size, odd, units, round, neg, lt, le, ofBits, toSigned}
-use lib.Ieee.Fits.{round-is, round-fits, and-i, and-l, and-r, down-pos}
-use lib.Ieee.Bits.{ofBits-toBits, toBits-lt}
+use lib.Ieee.{Float, nan, inf, fin, Format, binary32, prec, emax, low, up, down, size, odd, units, round, neg, lt, le, toSigned}
+use lib.Ieee.Fits.{round-is, and-i, and-l, and-r, down-pos}
 use lib.Ieee.Order.{round-mono}
 use lib.Ieee.Nearest.{closest}
-use Rattle.decimal.specs.Decimal.{decimal, decimalWord}
+use Rattle.decimal.specs.Decimal.{decimal}
 use Rattle.decimal.proofs.Law.{neg-round}
 use Rattle.float.specs.Float.{zero as +0, maxZero, billion, inReach, roundSize, roundAway}
 use Rattle.float.proofs.Sign.{above-cases}
@@ -98,14 +97,6 @@ module _ (negative : Bool) (digits tens : ℕ) where
   -- 01, Numerals: at most 9 digits before the point. `tens` is how many stand after it.
   pub good-in-reach : digits < 10 ^ 9 * 10 ^ tens → T (inReach (decimal negative digits tens))
   good-in-reach h = fraction-in-reach negative digits (10 ^ tens) (ten-pos tens) (le-of-lt h)
-
-  -- so `in_reach` of what `decimal_word` gives is true
-  pub good-word-in-reach : digits < 10 ^ 9 * 10 ^ tens → T (inReach (ofBits binary32 (decimalWord negative digits tens)))
-  good-word-in-reach h =
-      subst (λ (x : Float). T (inReach x)) (sym (ofBits-toBits binary32 (decimal negative digits tens) (round-fits binary32 negative digits (10 ^ tens)))) (good-in-reach h)
-
-  pub word-fits : decimalWord negative digits tens < 2 ^ 32
-  word-fits = toBits-lt binary32 (decimal negative digits tens) (round-fits binary32 negative digits (10 ^ tens))
 
 -- ---- whole numbers
 pub size-in-reach : (s : Bool) (m : ℕ) (e : ℤ) → T (inReach (fin s m e)) → m * up e ≤ 1000000000 * down e

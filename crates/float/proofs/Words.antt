@@ -6,7 +6,7 @@ use native.Mathlib.Omega.{arith}
 use mathlib.Core.Bool.{Bool, true, false, cond, true≢false}
 use lib.IntN.{ℤ, pos, negsuc, negℤ, natAbs, _-ℤ_, +ℤ-comm, -ℤ-one}
 use lib.Signed.{leZ, nonNeg}
-use lib.Dec.{T, ltb, leb·zero}
+use lib.Dec.{T, leb·zero}
 use borrow.Author.Tests.{le-ltb, lt-ltb}
 use mir.Syntax.{w32}
 use mir.Val.{Fits, SFits, toZ, ofZ}
@@ -95,11 +95,3 @@ ofWord-toWord (negsuc n) f =
 
     more : (n : ℕ) → n < 2 ^ 31 → n < 2 ^ 32
     more n h = omega arith
-
-pub toWord-ofWord : (n : ℕ) → n < 2 ^ 32 → toWord (ofWord n) ≡ n
-unfolding ofWord
-toWord-ofWord n h = go (ltb n (2 ^ 31))
-  where
-    go : (t : Bool) → toWord (cond t (pos n) (negsuc (2 ^ 32 - suc n))) ≡ n
-    go true = refl
-    go false = left-twice n h

@@ -19,7 +19,7 @@ use Rattle.refusal.specs.Answer.{numberIn, placeIn, groundOf, roomFor, unlessBa
 use Rattle.tag.specs.WellFormed.{tableGround}
 use Rattle.table.specs.Ground.{inTime}
 use Rattle.karaoke.specs.declared.KaraokeSpan.{KaraokeSpan}
-use Rattle.karaoke.specs.Answer.{spansOf, answer, placesOf}
+use Rattle.karaoke.specs.Answer.{spansOf, answer}
 use Rattle.karaoke.specs.Progress as Progress
 use Rattle.karaoke.specs.Progress.{whole, progressIn, instantGround, progressedOr, progressed, progressOf}
 use Rattle.karaoke.proofs.Filling.{few-spans}

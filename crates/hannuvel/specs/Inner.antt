@@ -1,5 +1,4 @@
 -- Numbers as the code packs them. The remainders cut nothing off: Rattle.hannuvel.proofs.Unpacked.
-use mathlib.Core.Path.{_≡_}
 use Prim.Native.Nat.{ℕ, _+_, _-_, _*_, _%_, _^_, _<_}
 use lib.IntN.{ℤ, pos, negsuc}
 use Rattle.scan.specs.Scan.{pick}

@@ -11,7 +11,6 @@ use Rattle.marks.specs.Answer as Marks
 use Rattle.marks.specs.Answer.{marked, markOf}
 use Rattle.marks.specs.Marks.{Interval, marks, nextMark, Earliest}
 use Rattle.marks.specs.declared.Mark.{Mark}
-use Rattle.marks.specs.declared.Marked.{Marked}
 use Rattle.hannuvel.specs.Packed.{wordValue, Unpacks, Says}
 
 -- ---- `hannuvel_evaluate_at`

@@ -172,11 +172,13 @@ pub extern "C" fn hannuvel_style_in_force<'a>(
 ) -> u64
     ensures { λ r. ⌜ StyleCall (now (table .entry)) t duration (now (block .entry)) (now (own .entry)) r ⌝ }
 {
-    match style::check_texts(block, own) {
+    let texts = style::check_texts(block, own);
+    let call = table::check_call(table, t, duration);
+    match refusal::first_of(texts, call) {
         refusal::Checked::Bad(g) => packed_refusal(g),
-        refusal::Checked::Good => match reset::reset_at(table, t, duration) {
-            reset::ResetAt::Refused(r) => packed_refusal(r),
-            reset::ResetAt::Reset(s) => packed_style(style::named_reset(s, block, own)),
-        },
+        refusal::Checked::Good => {
+            let left = reset::reset_left(table, t, duration);
+            packed_style(style::named_reset(left, block, own))
+        }
     }
 }

@@ -1,6 +1,6 @@
 -- 01, Karaoke: progress is 0 up to the start, 1 from the end on, and within 0 to 1 always.
 use mathlib.Core.Path.{_≡_, refl, sym, subst}
-use mathlib.Core.Bool.{Bool, true, false}
+use mathlib.Core.Bool.{true, false}
 use mathlib.Core.Logic.{⊎-elim}
 use Prim.Native.Nat.{ℕ, _-_, _*_, _≤_, _<_}
 use native.Mathlib.Nat.{mul-pos, zero-lt-suc}
@@ -13,7 +13,7 @@ use lib.Ieee.Fits.{div-fits}
 use lib.Ieee.Order.{round-mono}
 use lib.Ieee.Positive.{num, den, positive, den-pos, own-value, value-pos, le→cross, between}
 use borrow.Author.Tests.{le-leb, lt-leb, ne-eqb}
-use Rattle.scan.specs.Scan.{pick, either}
+use Rattle.scan.specs.Scan.{either}
 use Rattle.scan.proofs.Laws.{le-or-lt, picked}
 use Rattle.float.specs.Float.{zero, one}
 use Rattle.refusal.specs.declared.Checked.{Checked}

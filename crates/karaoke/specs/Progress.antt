@@ -1,5 +1,4 @@
 -- 01, Karaoke: `progress` of a span at an instant, and ground 6.
-use Prim.Native.Nat.{ℕ}
 use lib.IntN.{ℤ, pos, _-ℤ_}
 use lib.Signed.{leZ}
 use lib.Dec.{T}

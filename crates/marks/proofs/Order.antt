@@ -114,12 +114,6 @@ after (negsuc (suc t)) = lt→ltb t (suc t) (omega arith)
 pub suc-after : (t : ℤ) → t <ℤ sucℤ t
 suc-after t = record { lt = after t }
 
-pub suc-≤ℤ : {t a : ℤ} → sucℤ t ≤ℤ a → t <ℤ a
-suc-≤ℤ {t} h = <ℤ-≤ℤ-trans (suc-after t) h
-
 -- before the next number is up to this one
 pub before-suc : {t a : ℤ} → a <ℤ sucℤ t → a ≤ℤ t
 before-suc {t} {a} h = ⊎-elim (λ g. g) (λ g. clashℤ h (<ℤ-suc g)) (total a t)
-
-pub suc-≤ℤ-suc : {a b : ℤ} → a ≤ℤ b → sucℤ a ≤ℤ sucℤ b
-suc-≤ℤ-suc {a} {b} h = <ℤ-suc (≤ℤ-<ℤ-trans h (suc-after b))

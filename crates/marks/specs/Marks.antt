@@ -1,7 +1,6 @@
 -- 01, Marks: whole milliseconds at which the state may change. They are kept as intervals: no list of milliseconds is built.
 use Prim.Native.Nat.{ℕ, _-_}
 use mathlib.Core.List.{List, [], _∷_, _++_}
-use mathlib.Core.Path.{_≡_}
 use lib.Dec.{ltb}
 use lib.IntN.{ℤ, pos, sucℤ}
 use lib.Signed.{leZ, _≤ℤ_, _<ℤ_}

@@ -6,7 +6,6 @@ use Prim.Native.String.{String}
 use lib.Ieee.{round, toBits}
 use lib.ListN.{length}
 use Rattle.scan.specs.Scan.{bytes, span, skip, skipBack, blankAt, blankBefore}
-use Rattle.numeral.specs.declared.Numeral.{Numeral}
 use Rattle.numeral.specs.declared.Numeral.the-variants.{No, TooLong, Word}
 use Rattle.numeral.specs.Numeral.{value, wholeNumber, wordOfI32, i32Of, i32At, hexAt, splitAt, exponentAt, wordOfF32, floatOf, f32Of, f32At}
 

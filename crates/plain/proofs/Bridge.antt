@@ -1,5 +1,5 @@
 -- The words of a plain tag are those of its record, and it has one: by the shape of its parameter, for every shape of the table.
-use mathlib.Core.Path.{_≡_, refl, subst}
+use mathlib.Core.Path.{_≡_, refl}
 use mathlib.Core.Bool.{Bool, true, false}
 use mathlib.Core.List.{List, [], _∷_}
 use Prim.Native.Nat.{ℕ, _<_}
@@ -20,11 +20,11 @@ use Rattle.colour.specs.declared.Colour.the-variants.{Rgb}
 use Rattle.tag.specs.Tag as Tag
 use Rattle.tag.specs.Tag.{AnimatedTag, Be, Pbo}
 use Rattle.tag.specs.declared.Record.{Record}
-use Rattle.tag.specs.Table.{rec, head, records, bits, oneFloat, twoFloats, fourFloats, oneNumber, partRecord, rgbRecord, flagWord, kindWord}
+use Rattle.tag.specs.Table.{rec, records, bits, oneFloat, twoFloats, fourFloats, oneNumber, partRecord, rgbRecord, flagWord, kindWord}
 use Rattle.plain.specs.declared.Kept.{Kept}
 use Rattle.plain.specs.declared.Kept.the-variants as Kept
 use Rattle.plain.specs.Names.{Shape, float, pair, ranged, flag, alpha, colour, clip, beat, fad, fade, move, edge, baseline, weight, reset, unknown, names, lookup, keyAt}
-use Rattle.plain.specs.Plain.{kept, far, part, mapF32, mapAlpha, mapColour, orZero, f32s, unlessLong, clipOf, beatOf, nth, shaped, isFn, isNamedReset, plainAt}
+use Rattle.plain.specs.Plain.{kept, part, mapF32, mapAlpha, mapColour, orZero, f32s, unlessLong, clipOf, beatOf, nth, shaped, isFn, isNamedReset, plainAt}
 use Rattle.plain.specs.Inner.{keptOf, kindOf, codeOf, keepWord, beatWord, edgeWord, baselineWord, longOr, nthWord, alphaTag, colourTag, clipTag, drawingTag, numbersAt, shapedTag}
 use Rattle.plain.proofs.Numbers.{Back, f32-back, i32-small}
 use Rattle.plain.proofs.Commas.{Floats, floats-read, floats-length, ints-read}
@@ -143,9 +143,3 @@ module _ (s : List ℕ) (i m p q : ℕ) where
   plain-single =
       let k = keyAt s i m in
       picked Single (isFn s i m) _ _ refl (picked Single (isNamedReset s i m p q) _ _ refl (gives-single (gives (lookup k names) (find Sound tt k names sound) s p q)))
-
-  pub kept-single : (x : AnimatedTag) → plainAt s i m p q ≡ kept x → records x ≡ head x ∷ []
-  kept-single x e = subst Single e plain-single
-
-  pub far-single : (x : AnimatedTag) → plainAt s i m p q ≡ far x → records x ≡ head x ∷ []
-  far-single x e = subst Single e plain-single

@@ -2,19 +2,18 @@
 use mathlib.Core.Path.{_≡_, refl, sym, ap, _∙_}
 use mathlib.Core.List.{List}
 use mathlib.Core.Bool.{Bool, true, false}
-use Prim.Native.Nat.{ℕ, _*_, _≤_, _<_, min}
+use Prim.Native.Nat.{ℕ, _*_, _≤_, min}
 use native.Mathlib.Omega.{arith}
-use lib.Dec.{ltb, leb}
+use lib.Dec.{leb}
 use lib.ListN.{length, drop}
 use lib.Seq.{take-at}
-use borrow.Author.Tests.{le-leb, lt-leb, leb-true, leb-false}
-use Rattle.scan.specs.Scan.{pick, inClass, spanTo}
-use Rattle.scan.specs.declared.Class.the-variants.{Below}
+use borrow.Author.Tests.{leb-true}
+use Rattle.scan.specs.Scan.{pick}
 use Rattle.lists.specs.declared.Found.{Found}
 use Rattle.lists.specs.declared.Found.the-variants.{Nowhere, At}
-use Rattle.refusal.specs.Refusal.{numberOf, mostBytes, mostPlaces}
+use Rattle.refusal.specs.Refusal.{mostPlaces}
 use Rattle.refusal.specs.declared.Refusal.{Refusal}
-use Rattle.refusal.specs.declared.Refusal.the-variants.{TextTooLong, NotAscii, NoRoom}
+use Rattle.refusal.specs.declared.Refusal.the-variants.{NoRoom}
 use Rattle.tag.specs.Table.{width, encode, tableWords}
 use Rattle.tag.proofs.Table.{laid-full, length-words}
 use Rattle.tag.proofs.Tags.{count-length}
@@ -24,7 +23,7 @@ use Rattle.refusal.specs.declared.Answer.the-variants.{Written, Refused}
 use Rattle.refusal.specs.declared.Checked.{Checked}
 use Rattle.refusal.specs.declared.Checked.the-variants.{Good, Bad}
 use Rattle.read.specs.declared.Span.{Span}
-use Rattle.refusal.specs.Answer.{roomFor, unlessBad}
+use Rattle.refusal.specs.Answer.{unlessBad}
 use Rattle.read.specs.Reading.{readGround, blockOf, keptTags, answer, after}
 use Rattle.tag.specs.Table.{placesOf}
 use Rattle.refusal.specs.Refusal.{textGround}

@@ -24,7 +24,7 @@ use Rattle.read.specs.declared.Span.{Span}
 use Rattle.read.specs.Block.{headTimes, headAccel, Got, nothing as none, join, oneGot, Peel, tOf, parse}
 use Rattle.tag.specs.Tag.{mostDepth}
 use Rattle.read.specs.Reading.{keptTags, readGround, blockOf, answer}
-use Rattle.read.proofs.Inside.{Between, nowhere, there, between-at, between-wider, between-first, between-none}
+use Rattle.read.proofs.Inside.{Between, nowhere, there, between-wider, between-first, between-none}
 use Rattle.read.proofs.Fine.{Fine, nothing, late, tag, away, plain-fine}
 use Rattle.read.proofs.Parts.{PeelIn, parse-has, SpanIn}
 
@@ -70,19 +70,6 @@ placed d s i e =
     (λ d i m p q e z a b c l m₁ n₁ h. one-placed z (omega arith) c l (plain-fine s top p q c (le-trans l h) m₁ n₁ (i + 1) m (omega arith)) (plain-single s (i + 1) m p q))
     (λ d i p q e l g z a b u v h. t-placed l g z a b u (v (le-trans b h)))
     d i e h (le-refl e) (inl refl)
-
-module _ (d : ℕ) (s : List ℕ) (i e : ℕ) (order : i ≤ e) (short : e ≤ mostBytes) where
-  -- ground 3: the first byte of a numeral
-  pub long-within : (p : ℕ) → parse d s i e .long ≡ At p → (i ≤ p) × (p < e)
-  long-within p h = between-at (placed d s i e order short .long) p h
-
-  -- ground 4: the backslash of a \fade
-  pub far-within : (p : ℕ) → parse d s i e .far ≡ At p → (i ≤ p) × (p < e)
-  far-within p h = between-at (placed d s i e order short .far) p h
-
-  -- ground 9: the number of records
-  pub few-tags : keptTags (parse d s i e) ≤ e - i
-  few-tags = le-trans (placed d s i e order short .few) (slashes-most s i e)
 
 -- ---- a plain text
 

@@ -11,6 +11,11 @@ use Rattle.refusal.specs.declared.Answer.{Answer}
 use Rattle.refusal.specs.declared.Answer.the-variants.{Written, Refused}
 use Rattle.refusal.specs.Refusal.{numberOf, placeOf, mostPlaces}
 
+-- 01, Grounds for turning a call down, "in checking order": of two checks, what the first finds, or else the second
+abbrev pub firstGround : Checked → Checked → Checked
+firstGround Good c = c
+firstGround (Bad r) c = Bad r
+
 -- ---- what stands for what a check finds
 
 -- 01, Grounds for turning a call down: "Each gives its number and the stated place or count (else 0)"; 0 where no ground stands

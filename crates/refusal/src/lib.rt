@@ -2,6 +2,7 @@
 ghost use mathlib.Core.Path.{_≡_};
 ghost use Prim.Native.Nat.{_≤_};
 ghost use Rattle.refusal.specs.Refusal.{numberOf, placeOf, textGround};
+ghost use Rattle.refusal.specs.Answer.{firstGround};
 
 // The nine grounds in checking order, each with its place or count where it has one.
 pub enum Refusal {
@@ -59,6 +60,16 @@ pub fn place_of(r: Refusal) -> usize
         Refusal::ScaleTooLarge => 0,
         Refusal::NameBeyondText => 0,
         Refusal::NoRoom(n) => n,
+    }
+}
+
+// Of two checks what the first finds, or else the second.
+pub fn first_of(a: Checked, b: Checked) -> Checked
+    ensures { λ r. ⌜ r ≡ firstGround a b ⌝ }
+{
+    match a {
+        Checked::Good => b,
+        Checked::Bad(r) => Checked::Bad(r),
     }
 }
 

@@ -6,12 +6,6 @@ use Rattle.state.specs.declared.OptReset.{OptReset}
 use Rattle.state.specs.declared.RenderState.{RenderState}
 use Rattle.state.specs.State.{resetTo}
 use Rattle.state.specs.Apply.{applyTags}
-use Rattle.evaluate.specs.declared.Evaluated.{Evaluated}
-use Rattle.reset.specs.declared.ResetAt.{ResetAt}
-
-abbrev pub resetIn : Evaluated → ResetAt
-resetIn (Evaluated.State st) = ResetAt.Reset (resetTo st)
-resetIn (Evaluated.Refused r) = ResetAt.Refused r
 
 -- the tags make r of what \r had left before them, s, whatever else the state has
 abbrev pub Leaves : ℤ → ℤ → Tags → OptReset → OptReset → Type 0

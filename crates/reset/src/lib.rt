@@ -2,17 +2,11 @@
 ghost use mathlib.Core.Path.{_≡_};
 ghost use Rattle.table.specs.Inner.{Inside};
 ghost use Rattle.evaluators.specs.Inner.{tagsAt};
-ghost use Rattle.evaluate.specs.Evaluate.{evaluated};
-ghost use Rattle.reset.specs.Reset.{resetIn, Leaves};
-use refusal::Checked;
-use refusal::Refusal;
+ghost use Rattle.tag.specs.Decode.{tagsOf};
+ghost use Rattle.state.specs.State.{resetTo};
+ghost use Rattle.state.specs.Apply.{evaluateAt};
+ghost use Rattle.reset.specs.Reset.{Leaves};
 use state::OptReset;
-
-// What the call answers.
-pub enum ResetAt {
-    Reset(OptReset),
-    Refused(Refusal),
-}
 
 // What the tags of the `count` records from `first` on make of s, one after the other. A T that has not begun changes nothing.
 fn reset_tags(table: &[u32], first: usize, count: usize, s: OptReset, t: i32, dur: i32) -> OptReset
@@ -43,19 +37,9 @@ fn reset_tags(table: &[u32], first: usize, count: usize, s: OptReset, t: i32, du
     reset
 }
 
-// What \r has left of a table's tags at t, unless the table or a time is at fault.
-pub fn reset_at(table: &[u32], t: i32, dur: i32) -> ResetAt
-    ensures { λ r. ⌜ r ≡ resetIn (evaluated (now (table .entry)) t dur) ⌝ }
+// What \r has left of a table's tags at t.
+pub fn reset_left(table: &[u32], t: i32, dur: i32) -> OptReset
+    ensures { λ r. ⌜ r ≡ resetTo (evaluateAt t dur (tagsOf (now (table .entry)))) ⌝ }
 {
-    match table::check_call(table, t, dur) {
-        Checked::Bad(r) => ResetAt::Refused(r),
-        Checked::Good => ResetAt::Reset(reset_tags(
-            table,
-            0,
-            table.len() / 8,
-            OptReset::None,
-            t,
-            dur,
-        )),
-    }
+    reset_tags(table, 0, table.len() / 8, OptReset::None, t, dur)
 }

@@ -1,15 +1,14 @@
 -- What a tag does to the state at an instant t of a line that lasts dur milliseconds: `apply_tag` of the Rust, one clause for each case.
 use Prim.Native.Nat.{ℕ, _-_, min}
-use mathlib.Core.Bool.{Bool, true, false}
-use mathlib.Core.List.{List, [], _∷_}
+use mathlib.Core.List.{[], _∷_}
 use lib.Dec.{eqb, leb, ltb}
 use lib.IntN.{ℤ, pos, negsuc, _-ℤ_}
 use lib.Signed.{ltZ}
 use lib.Ieee.{Float, binary32, mul, div, sub, le, ofInt}
 use lib.ListN.{getD}
 use Rattle.scan.specs.Scan.{pick, within}
-use Rattle.float.specs.Float.{zero, one, maxZero, clamp, lerp, toRadians}
-use Rattle.tag.specs.Tag.{Part as TagPart, Times, absent, times, Rgb as TagRgb, Reset, plain, named, AnimatedTag, Fad, Fade, Pos, Move, Frz, Blur, Fscx, Fscy, Color1, Fs, ClipRect, ClipDrawing, Frx, Fry, Org, Bord, Xbord, Ybord, Shad, Xshad, Yshad, Be, Fax, Fay, IClipRect, IClipDrawing, Color2, Color3, Color4, Alpha, Alpha1, Alpha2, Alpha3, Alpha4, Fsp, Q, An, A, Fn, Fe, R, B, I, U, S, Karaoke, Pbo, P, T, Tags, foldTag, foldTags}
+use Rattle.float.specs.Float.{zero, one, maxZero, clamp, toRadians}
+use Rattle.tag.specs.Tag.{Part as TagPart, Rgb as TagRgb, Reset, plain, named, AnimatedTag, Fad, Fade, Pos, Move, Frz, Blur, Fscx, Fscy, Color1, Fs, ClipRect, ClipDrawing, Frx, Fry, Org, Bord, Xbord, Ybord, Shad, Xshad, Yshad, Be, Fax, Fay, IClipRect, IClipDrawing, Color2, Color3, Color4, Alpha, Alpha1, Alpha2, Alpha3, Alpha4, Fsp, Q, An, A, Fn, Fe, R, B, I, U, S, Karaoke, Pbo, P, T, Tags, foldTags}
 use Rattle.state.specs.declared.OptF32.{OptF32}
 use Rattle.state.specs.declared.OptPair.{OptPair}
 use Rattle.state.specs.declared.OptRect.{OptRect}
@@ -23,7 +22,6 @@ use Rattle.state.specs.declared.OptName.{OptName}
 use Rattle.state.specs.declared.OptReset.{OptReset}
 use Rattle.state.specs.declared.Pair.{Pair}
 use Rattle.state.specs.declared.Part.{Part}
-use Rattle.state.specs.declared.Rgb.{Rgb}
 use Rattle.state.specs.declared.Always.{Always}
 use Rattle.state.specs.declared.Alphas.{Alphas}
 use Rattle.state.specs.declared.Line.{Line}
@@ -217,11 +215,6 @@ applyOwn t dur (P n) inner st = withLine st (setDrawingScale (st .line) (someByt
 applyOwn t dur (T x accel l) inner st = between (factor x accel t dur) st (inner st)
 
 -- ---- tags one after the other
-
--- `apply_tag`
-unfoldable pub applyTag : ℤ → ℤ → AnimatedTag → RenderState → RenderState
-unfolding applyOwn
-applyTag t dur x = foldTag (applyOwn t dur) (λ st. st) (λ f g st. g (f st)) x
 
 -- all of them, from any state
 unfoldable pub applyTags : ℤ → ℤ → Tags → RenderState → RenderState

@@ -1,14 +1,10 @@
 -- Worked examples, by computation: 01's sheet and its plausible slips, on tags.
 use mathlib.Core.Path.{_≡_, refl}
-use mathlib.Core.Bool.{false, true}
 use Prim.Native.Nat.{ℕ}
-use lib.IntN.{ℤ, pos, negsuc}
+use lib.IntN.{ℤ, pos}
 use lib.Ieee.{Float, binary32, ofBits, toBits, ofInt}
 use Rattle.float.specs.Float.{zero, one}
-use Rattle.tag.specs.Tag.{times, absent, Tags, none, and, Fad, Fade, Fs, T, Alpha1, Color1, Pbo, Be, R, plain}
-use Rattle.state.specs.declared.OptF32.{OptF32}
-use Rattle.state.specs.declared.OptU8.{OptU8}
-use Rattle.state.specs.declared.RenderState.{RenderState}
+use Rattle.tag.specs.Tag.{times, absent, Tags, none, and, Fad, Fs, T, Alpha1}
 use Rattle.state.specs.Mix.{quotient, f32Or, u8Or}
 use Rattle.state.specs.Apply.{applyOwn, applyTags, evaluateAt}
 

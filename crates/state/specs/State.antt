@@ -13,17 +13,6 @@ use Rattle.state.specs.declared.OptBool.{OptBool}
 use Rattle.state.specs.declared.OptPart.{OptPart}
 use Rattle.state.specs.declared.OptName.{OptName}
 use Rattle.state.specs.declared.OptReset.{OptReset}
-use Rattle.state.specs.declared.MaybeF32.{MaybeF32}
-use Rattle.state.specs.declared.MaybePair.{MaybePair}
-use Rattle.state.specs.declared.MaybeRect.{MaybeRect}
-use Rattle.state.specs.declared.MaybeRgb.{MaybeRgb}
-use Rattle.state.specs.declared.MaybeU8.{MaybeU8}
-use Rattle.state.specs.declared.MaybeU16.{MaybeU16}
-use Rattle.state.specs.declared.MaybeI32.{MaybeI32}
-use Rattle.state.specs.declared.MaybeBool.{MaybeBool}
-use Rattle.state.specs.declared.MaybePart.{MaybePart}
-use Rattle.state.specs.declared.MaybeName.{MaybeName}
-use Rattle.state.specs.declared.MaybeReset.{MaybeReset}
 use Rattle.state.specs.declared.Pair.{Pair}
 use Rattle.state.specs.declared.Always.{Always}
 use Rattle.state.specs.declared.Places.{Places}

@@ -16,7 +16,9 @@ use Rattle.refusal.specs.declared.Refusal.the-variants.{TableMalformed}
 use Rattle.tag.specs.declared.Record.{Record}
 use Rattle.tag.specs.Tag.{mostDepth}
 use Rattle.tag.specs.Range.{inRange}
-use Rattle.tag.specs.WellFormed.{tKind, holds, firstGround, faultIn, fault}
+use Rattle.refusal.specs.Answer.{firstGround}
+use Rattle.tag.specs.WellFormed.{tKind, holds, faultIn, fault}
+use Rattle.tag.proofs.Formed.{bad-good}
 use Rattle.table.specs.Inner.{recordIn, part, Inside, ofKind, stands, tStands, faultOfT}
 use Rattle.table.proofs.Slices.{inside-places, part-more, length-part, take-part, drop-part}
 
@@ -190,9 +192,6 @@ module _ (t : List ℕ) (at n : ℕ) (x : Record) {u v : Bool} (p : u ≡ inRang
 
   pub t-reach : v ≡ true → holds x ≤ n
   t-reach z = leb-true (holds x) n (both-true u (leb (holds x) n) (sym q ∙ z) .1)
-
-pub bad-good : {b : Refusal} → Bad b ≡ Good → ⊥
-bad-good e = let z : _≡_ {A = ℕ} 0 1 = cc in omega arith
 
 module _ (t : List ℕ) (at left : ℕ) (h : Inside t at left) (g : 0 < left) (x : Record) (e : x ≡ recordIn t at) (k : x .kind ≡ tKind) (c : Checked) (f : c ≡ faultOfT t at (left - 1) x) where
   abbrev found : Bool → Checked

@@ -1,11 +1,11 @@
 -- Which words are those of floats in range: without the sign, at most the bits of 1,000,000,000.
-use mathlib.Core.Path.{_≡_, refl, sym, ap, _∙_, subst}
-use mathlib.Core.Bool.{Bool, true, false, not, cond, _&&_, _||_}
-use mathlib.Core.Logic.{_⊎_, inl, inr, ⊎-elim}
+use mathlib.Core.Path.{_≡_, refl, sym, ap, _∙_}
+use mathlib.Core.Bool.{Bool, true, false, cond, _&&_, _||_}
+use mathlib.Core.Logic.{_⊎_, ⊎-elim}
 use Prim.Native.Nat.{ℕ, zero, suc, _+_, _*_, _/_, _%_, _^_, _≤_, _<_}
 use native.Mathlib.Nat.{le-trans, eq-or-lt-of-le, mul-one, mul-pos, mul-le-mul-right, le-of-mul-le-mul-right}
 use native.Mathlib.Omega.{arith}
-use lib.IntN.{ℤ, pos}
+use lib.IntN.{ℤ}
 use lib.Dec.{lit<, leb, ltb, eqb}
 use lib.Pow.{pow-pos, pow-mono}
 use lib.Ieee.{Float, nan, inf, fin, binary32, up, down, neg, le, odd, ofFields, ofBits}
@@ -14,7 +14,7 @@ use lib.Ieee.Exact.{HasValue, odd-sign}
 use lib.Ieee.Order.{transfer}
 use borrow.Author.Tests.{lt-ltb, le-ltb, le-leb, lt-leb, eq-eqb, ne-eqb, eqb-true}
 use Rattle.scan.proofs.Laws.{le-or-lt}
-use Rattle.float.specs.Float.{billion, inReach}
+use Rattle.float.specs.Float.{inReach}
 
 -- ---- by the size of a float
 

@@ -1,37 +1,30 @@
 -- Grounds 5 and 6: what no ground says of a call, and back.
-use mathlib.Core.Path.{_≡_, refl, sym, ap, _∙_}
-use mathlib.Core.List.{List, [], _∷_}
-use mathlib.Core.Bool.{Bool, true, false, true≢false}
+use mathlib.Core.Path.{_≡_, refl}
+use mathlib.Core.List.{List}
+use mathlib.Core.Bool.{Bool, true, false}
 use mathlib.Core.Logic.{⊎-elim}
-use Prim.Native.Nat.{ℕ, zero, suc, _%_, _≤_, min}
+use Prim.Native.Nat.{ℕ, _≤_, min}
 use native.Mathlib.Omega.{arith}
 use lib.IntN.{ℤ, pos, negsuc, natAbs}
-use lib.Dec.{leb, eqb}
-use lib.ListN.{length, take}
+use lib.Dec.{leb}
+use lib.ListN.{take}
 use lib.Seq.{take-all}
-use borrow.Author.Tests.{leb-true, le-leb}
+use borrow.Author.Tests.{leb-true}
 use Rattle.scan.specs.Scan.{pick, both}
 use Rattle.scan.proofs.Laws.{le-or-lt}
 use Rattle.float.specs.Float.{reach}
 use Rattle.refusal.specs.Refusal.{mostPlaces}
 use Rattle.refusal.specs.declared.Checked.{Checked}
 use Rattle.refusal.specs.declared.Checked.the-variants.{Good, Bad}
-use Rattle.refusal.specs.declared.Refusal.{Refusal}
 use Rattle.refusal.specs.declared.Refusal.the-variants.{TableMalformed, TimeOutOfRange}
 use Rattle.tag.specs.Tag.{mostDepth}
-use Rattle.tag.specs.Table.{width, placesOf}
-use Rattle.tag.specs.WellFormed.{recordsOf, broken, WellFormed, firstGround, fault, excess, tableGround}
-use Rattle.tag.proofs.Formed.{ground-formed, formed-ground}
+use Rattle.tag.specs.Table.{placesOf}
+use Rattle.refusal.specs.Answer.{firstGround}
+use Rattle.tag.specs.WellFormed.{recordsOf, broken, fault, excess, tableGround}
+use Rattle.tag.proofs.Formed.{bad-good, first-good, ground-formed, formed-ground}
 use Rattle.table.specs.Inner.{part}
 use Rattle.table.specs.Ground.{inTime, timeGround, Fine, callGround}
 use Rattle.table.proofs.Slices.{length-records}
-
--- the first of two answers
-pub first-none : {a : Checked} (b : Checked) → a ≡ Good → b ≡ firstGround a b
-first-none b e = rw e
-
-pub first-found : {a : Checked} (b : Checked) {x : Refusal} → a ≡ Bad x → Bad x ≡ firstGround a b
-first-found b e = rw e
 
 -- ---- ground 5 in the code's words
 
@@ -59,10 +52,6 @@ pub times-found : (t dur : ℤ) (a b v : Bool) → a ≡ inTime t → b ≡ inTi
 unfolding timeGround
 times-found t dur a b v h g e = rw (e, h, g)
 
-pub call-found : (ws : List ℕ) (t dur : ℤ) (c : Checked) → c ≡ tableGround ws → firstGround c (timeGround t dur) ≡ callGround ws t dur
-unfolding callGround
-call-found ws t dur c e = rw e
-
 -- within ±1,000,000,000
 pub in-time-size : (z : ℤ) → inTime z ≡ true → natAbs z ≤ reach
 in-time-size (pos n) e = leb-true n reach e
@@ -72,18 +61,7 @@ in-time-size (negsuc n) e = let h = leb-true n 999999999 (as-is (leb n 999999999
     as-is true e = refl
     as-is false e = e
 
-pub size-in-time : (z : ℤ) → natAbs z ≤ reach → inTime z ≡ true
-size-in-time (pos n) h = le-leb n reach h
-size-in-time (negsuc n) h = rw (le-leb n 999999999 (omega arith))
-
 -- ---- a call
-
-bad-good : {b : Refusal} → Bad b ≡ Good → ⊥
-bad-good e = let z : _≡_ {A = ℕ} 0 1 = cc in omega arith
-
-first-good : (a b : Checked) → firstGround a b ≡ Good → (a ≡ Good) × (b ≡ Good)
-first-good Good b e = (refl, e)
-first-good (Bad r) b e = absurd (bad-good e)
 
 times-good : (a b : Bool) → pick (both a b) Good (Bad TimeOutOfRange) ≡ Good → (a ≡ true) × (b ≡ true)
 times-good true true e = (refl, refl)

@@ -1,13 +1,13 @@
 -- The records of a table, one by one, and parts of them.
 use mathlib.Core.Path.{_≡_, refl, sym, ap, _∙_}
 use mathlib.Core.List.{List, [], _∷_}
-use Prim.Native.Nat.{ℕ, zero, suc, _+_, _-_, _*_, _/_, _≤_, _<_, min}
+use Prim.Native.Nat.{ℕ, zero, suc, _+_, _-_, _*_, _≤_, _<_}
 use native.Mathlib.Omega.{arith}
 use native.Mathlib.Nat.{div-add-mod', mod-lt}
 use lib.ListN.{length, getD, take, drop, length-take, length-drop}
-use lib.Seq.{getD-drop, drop-drop, drop-cons, take-take, take-length, take-nil}
+use lib.Seq.{getD-drop, drop-drop, drop-cons, take-take, take-nil}
 use Rattle.tag.specs.declared.Record.{Record}
-use Rattle.tag.specs.Table.{width, rec, placesOf}
+use Rattle.tag.specs.Table.{width, placesOf}
 use Rattle.tag.specs.WellFormed.{recordAt, recordsTo, recordsOf}
 use Rattle.table.specs.Inner.{recordIn, part, Inside}
 
@@ -51,15 +51,9 @@ drop-records t at h =
 pub inside-places : (t : List ℕ) (at n : ℕ) → Inside t at n → at + n ≤ placesOf t
 inside-places t at n h = let d = div-add-mod' (length t) width in omega (arith, mod-lt (length t) {m = width} (omega arith))
 
-pub part-none : (t : List ℕ) (at : ℕ) → part t at 0 ≡ []
-part-none t at = refl
-
 pub part-more : (t : List ℕ) (at n : ℕ) → at < placesOf t → 0 < n → part t at n ≡ recordIn t at ∷ part t (at + 1) (n - 1)
 part-more t at zero h g = absurd (omega arith)
 part-more t at (suc n) h g = let z : suc n - 1 ≡ n = omega arith in rw (drop-records t at h, z)
-
-pub part-all : (t : List ℕ) → part t 0 (placesOf t) ≡ recordsOf t
-part-all t = let l = length-records t in sym (ap (λ (n : ℕ). take n (recordsOf t)) l) ∙ take-length (recordsOf t)
 
 pub length-part : (t : List ℕ) (at n : ℕ) → at + n ≤ placesOf t → length (part t at n) ≡ n
 length-part t at n h = omega (arith, length-take n (drop at (recordsOf t)), length-drop at (recordsOf t), length-records t)

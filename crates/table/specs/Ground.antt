@@ -1,7 +1,7 @@
 -- 01, Grounds for turning a call down: 6, and 5 before it.
 use mathlib.Core.Path.{_≡_}
 use mathlib.Core.List.{List}
-use mathlib.Core.Bool.{Bool, true, false}
+use mathlib.Core.Bool.{Bool, true}
 use Prim.Native.Nat.{ℕ}
 use lib.IntN.{ℤ, pos, negℤ}
 use lib.Signed.{leZ}
@@ -10,7 +10,8 @@ use Rattle.float.specs.Float.{reach}
 use Rattle.refusal.specs.declared.Checked.{Checked}
 use Rattle.refusal.specs.declared.Checked.the-variants.{Good, Bad}
 use Rattle.refusal.specs.declared.Refusal.the-variants.{TimeOutOfRange}
-use Rattle.tag.specs.WellFormed.{WellFormed, firstGround, tableGround}
+use Rattle.refusal.specs.Answer.{firstGround}
+use Rattle.tag.specs.WellFormed.{WellFormed, tableGround}
 
 -- "within ±1,000,000,000"
 abbrev pub inTime : ℤ → Bool

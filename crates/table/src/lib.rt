@@ -7,7 +7,8 @@ ghost use Prim.Native.Nat.{_+_, _-_, _*_, _<_};
 ghost use lib.Dec.{eqb};
 ghost use Rattle.scan.specs.Scan.{both, within as withinOf};
 ghost use Rattle.tag.specs.Range.{unused, float, range, time, weight, free, timeWord, partFits, timesFit, wordFits, inRange};
-ghost use Rattle.tag.specs.WellFormed.{firstGround, fault as faultOf, excess as excessOf, tableGround};
+ghost use Rattle.refusal.specs.Answer.{firstGround};
+ghost use Rattle.tag.specs.WellFormed.{fault as faultOf, excess as excessOf, tableGround};
 ghost use Rattle.table.specs.Inner.{recordIn, part, Inside, wordsFit, oneFits, twoFit, flagTimes, fontParts, stylePart, stands as standsOf, tStands, faultOfT};
 ghost use Rattle.table.specs.Ground.{inTime, timeGround, callGround};
 
@@ -343,10 +344,8 @@ pub fn check_table(table: &[u32]) -> Checked
     ensures { λ r. ⌜ r ≡ tableGround (now (table .entry)) ⌝ }
 {
     let found = fault(table, 0, scan::least(table.len() / 8, 1024), 8);
-    match found {
-        Checked::Good => excess(table),
-        Checked::Bad(x) => Checked::Bad(x),
-    }
+    let last = excess(table);
+    refusal::first_of(found, last)
 }
 
 fn in_time(z: i32) -> bool
@@ -369,20 +368,16 @@ pub fn check_times(t: i32, dur: i32) -> Checked
 pub fn after_records(table: &[u32], t: i32, dur: i32) -> Checked
     ensures { λ r. ⌜ r ≡ firstGround (excessOf (now (table .entry))) (timeGround t dur) ⌝ }
 {
-    let found = excess(table);
-    match found {
-        Checked::Good => check_times(t, dur),
-        Checked::Bad(x) => Checked::Bad(x),
-    }
+    let behind = excess(table);
+    let times = check_times(t, dur);
+    refusal::first_of(behind, times)
 }
 
 // Grounds 5 and 6.
 pub fn check_call(table: &[u32], t: i32, dur: i32) -> Checked
     ensures { λ r. ⌜ r ≡ callGround (now (table .entry)) t dur ⌝ }
 {
-    let found = check_table(table);
-    match found {
-        Checked::Good => check_times(t, dur),
-        Checked::Bad(x) => Checked::Bad(x),
-    }
+    let five = check_table(table);
+    let six = check_times(t, dur);
+    refusal::first_of(five, six)
 }

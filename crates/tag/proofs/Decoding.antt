@@ -1,22 +1,20 @@
 -- Tags whose records can be read back: their records are a well-formed table, which decodes to them.
 use mathlib.Core.Path.{_≡_, refl, sym, ap, _∙_}
 use mathlib.Core.List.{List, [], _∷_, _++_, map}
-use mathlib.Core.Bool.{Bool, true, false}
-use Prim.Native.Nat.{ℕ, zero, suc, _+_, _-_, _*_, _/_, _%_, _≤_, _<_}
+use mathlib.Core.Bool.{false}
+use Prim.Native.Nat.{ℕ, zero, suc, _+_, _-_, _*_, _%_, _≤_}
 use native.Mathlib.Omega.{arith}
 use native.Mathlib.Nat.{le-refl}
-use lib.Dec.{eqb}
 use lib.Ieee.{Float}
 use lib.ListN.{length, getD, take, drop, replicate, length-append, List·getD-map}
 use lib.Seq.{take-at, drop-at}
 use borrow.Author.Tests.{eq-eqb, ne-eqb}
-use Rattle.scan.specs.Scan.{pick}
 use Rattle.refusal.specs.Refusal.{mostPlaces}
 use Rattle.tag.specs.declared.Record.{Record}
 use Rattle.tag.specs.Tag.{mostDepth, Times, AnimatedTag, T, Tags, none, and, append, inside, count}
-use Rattle.tag.specs.Table.{width, bits, timesFlag, timesStart, timesEnd, words, tRecord, head, records, encode, tableWords, placesOf}
+use Rattle.tag.specs.Table.{width, bits, timesFlag, timesStart, timesEnd, tRecord, head, encode, tableWords, placesOf}
 use Rattle.tag.specs.WellFormed.{recordsTo, recordsOf, broken, All, all, more, InRange, tKind, holds, Nested, end, plain, around, WellFormed}
-use Rattle.tag.specs.Decode.{f, timesOf, decoders, nothing, decodeOne, decodeT, decodeIn, decode, tagsOf}
+use Rattle.tag.specs.Decode.{f, timesOf, decoders, nothing, decodeOne, decodeT, decodeIn, tagsOf}
 use Rattle.tag.proofs.Tags.{encode-and, records-own, encode-none, count-length}
 use Rattle.tag.proofs.Table.{length-words}
 use Rattle.tag.proofs.Formed.{all-append}

@@ -1,17 +1,16 @@
 -- 01, ground 5: no record is at fault exactly when the table is well formed, and the record named is the first at fault.
-use mathlib.Core.Path.{_≡_, refl, sym, ap, subst, _∙_}
+use mathlib.Core.Path.{_≡_, refl, sym, subst, _∙_}
 use mathlib.Core.List.{List, [], _∷_, _++_}
 use mathlib.Core.Bool.{Bool, true, false, true≢false}
 use mathlib.Core.Logic.{_⊎_, inl, inr, ⊎-elim}
-use Prim.Native.Nat.{ℕ, zero, suc, _+_, _-_, _≤_, _<_, min}
+use Prim.Native.Nat.{ℕ, zero, suc, _+_, _-_, _≤_, _<_}
 use native.Mathlib.Omega.{arith}
 use native.Mathlib.Nat.{le-refl}
 use lib.Dec.{leb, eqb}
 use lib.ListN.{length, take, drop, length-take, length-drop, take-append-drop}
 use lib.Seq.{take-all}
-use borrow.Author.Tests.{le-leb, lt-leb, eq-eqb, ne-eqb, leb-true, leb-false, eqb-true, eqb-false}
+use borrow.Author.Tests.{le-leb, eq-eqb, ne-eqb, leb-true, leb-false, eqb-true}
 use Rattle.scan.specs.Scan.{pick}
-use Rattle.scan.proofs.Laws.{le-or-lt}
 use Rattle.refusal.specs.Refusal.{mostPlaces}
 use Rattle.refusal.specs.declared.Checked.{Checked}
 use Rattle.refusal.specs.declared.Checked.the-variants.{Good, Bad}
@@ -20,7 +19,8 @@ use Rattle.refusal.specs.declared.Refusal.the-variants.{TableMalformed}
 use Rattle.tag.specs.declared.Record.{Record}
 use Rattle.tag.specs.Tag.{mostDepth}
 use Rattle.tag.specs.Range.{inRange}
-use Rattle.tag.specs.WellFormed.{recordsOf, broken, All, all, more, InRange, tKind, holds, Nested, end, plain, around, WellFormed, firstGround, faultIn, fault, excess, tableGround, AtFault, range, deep, past, later, inner, behind}
+use Rattle.refusal.specs.Answer.{firstGround}
+use Rattle.tag.specs.WellFormed.{recordsOf, broken, All, all, more, InRange, tKind, holds, Nested, end, plain, around, WellFormed, faultIn, fault, excess, tableGround, AtFault, range, deep, past, later, inner, behind}
 
 -- ---- lists
 
@@ -43,10 +43,10 @@ all-parts {A} {P} n l a b = subst (All P) (take-append-drop n l) (all-append a b
 
 -- ---- a fault and its place
 
-bad-good : {r : Refusal} → Bad r ≡ Good → ⊥
+pub bad-good : {r : Refusal} → Bad r ≡ Good → ⊥
 bad-good e = let z : _≡_ {A = ℕ} 0 1 = cc in omega arith
 
-first-good : (a b : Checked) → firstGround a b ≡ Good → (a ≡ Good) × (b ≡ Good)
+pub first-good : (a b : Checked) → firstGround a b ≡ Good → (a ≡ Good) × (b ≡ Good)
 first-good Good b e = (refl, e)
 first-good (Bad r) b e = absurd (bad-good e)
 

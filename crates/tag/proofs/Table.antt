@@ -1,5 +1,5 @@
 -- The laws of rows, for a table of records.
-use mathlib.Core.Path.{_≡_, refl, ap, _∙_}
+use mathlib.Core.Path.{_≡_, refl}
 use mathlib.Core.List.{List, [], _∷_, _++_}
 use lib.Seq.{drop-drop, sets}
 use Prim.Native.Nat.{ℕ, suc, _+_, _*_, _≤_, _<_, min}

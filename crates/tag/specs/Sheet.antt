@@ -5,13 +5,12 @@ use mathlib.Core.List.{List, [], _∷_, _++_, map}
 use mathlib.Core.Bool.{Bool, true, false}
 use Prim.Native.Nat.{ℕ, zero, suc}
 use lib.Ieee.{ofBits}
-use lib.ListN.{replicate}
-use Rattle.float.specs.Float.{inReach, ofWord}
+use Rattle.float.specs.Float.{inReach}
 use Rattle.refusal.specs.declared.Checked.{Checked}
 use Rattle.refusal.specs.declared.Checked.the-variants.{Good, Bad}
 use Rattle.refusal.specs.declared.Refusal.the-variants.{TableMalformed}
 use Rattle.tag.specs.declared.Record.{Record}
-use Rattle.tag.specs.Table.{rec, words, tableWords}
+use Rattle.tag.specs.Table.{rec, tableWords}
 use Rattle.tag.specs.Range.{rows, inRange}
 use Rattle.tag.specs.WellFormed.{recordsTo, faultIn, excess, tableGround}
 

@@ -1,7 +1,6 @@
 -- The tags of a block, as the Rust's `AnimatedTag` has them: its cases, names and order.
 -- What each means is said beside it, after the SSA v4.00+ specification and Aegisub's tag pages.
 use Prim.Native.Nat.{ℕ, suc, _+_}
-use mathlib.Core.List.{List, [], _∷_, _++_}
 use mathlib.Core.Bool.{Bool}
 use lib.IntN.{ℤ}
 use lib.Ieee.{Float}
@@ -305,63 +304,3 @@ mapOwn f (T t x l) u = T t x u
 -- all parts changed, at every depth
 abbrev pub mapParts : (Part → Part) → Tags → Tags
 mapParts f l = foldTags (mapOwn f) none and l
-
-abbrev pub resetParts : Reset → List Part
-resetParts plain = []
-resetParts (named p) = p ∷ []
-
--- a tag's own parts
-abbrev pub ownParts : AnimatedTag → List Part
-ownParts (Fad a b) = []
-ownParts (Fade a b c i j k h) = []
-ownParts (Pos x y) = []
-ownParts (Move x y z w t) = []
-ownParts (Frz x) = []
-ownParts (Blur x) = []
-ownParts (Fscx x) = []
-ownParts (Fscy x) = []
-ownParts (Color1 c) = []
-ownParts (Fs x) = []
-ownParts (ClipRect x y z w) = []
-ownParts (ClipDrawing p) = p ∷ []
-ownParts (Frx x) = []
-ownParts (Fry x) = []
-ownParts (Org x y) = []
-ownParts (Bord x) = []
-ownParts (Xbord x) = []
-ownParts (Ybord x) = []
-ownParts (Shad x) = []
-ownParts (Xshad x) = []
-ownParts (Yshad x) = []
-ownParts (Be a) = []
-ownParts (Fax x) = []
-ownParts (Fay x) = []
-ownParts (IClipRect x y z w) = []
-ownParts (IClipDrawing p) = p ∷ []
-ownParts (Color2 c) = []
-ownParts (Color3 c) = []
-ownParts (Color4 c) = []
-ownParts (Alpha a) = []
-ownParts (Alpha1 a) = []
-ownParts (Alpha2 a) = []
-ownParts (Alpha3 a) = []
-ownParts (Alpha4 a) = []
-ownParts (Fsp x) = []
-ownParts (Q a) = []
-ownParts (An a) = []
-ownParts (A a) = []
-ownParts (Fn p q) = p ∷ q ∷ []
-ownParts (Fe a) = []
-ownParts (R r) = resetParts r
-ownParts (B a) = []
-ownParts (I b) = []
-ownParts (U b) = []
-ownParts (S b) = []
-ownParts (Karaoke k a) = []
-ownParts (Pbo i) = []
-ownParts (P a) = []
-ownParts (T t x l) = []
-
--- all parts, at every depth
-unfoldable pub partsOf : Tags → List Part
-partsOf l = foldTags (λ x ps. ownParts x ++ ps) [] _++_ l

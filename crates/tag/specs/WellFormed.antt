@@ -1,12 +1,13 @@
 -- 01, A table record: "A table is well formed if", and ground 5, the first record at fault.
 use mathlib.Core.Path.{_≡_}
-use mathlib.Core.List.{List, [], _∷_, _++_}
+use mathlib.Core.List.{List, [], _∷_}
 use mathlib.Core.Bool.{Bool, true, false}
-use Prim.Native.Nat.{ℕ, zero, suc, _+_, _*_, _%_, _≤_, _<_}
+use Prim.Native.Nat.{ℕ, zero, suc, _+_, _%_, _≤_, _<_}
 use lib.Dec.{leb, eqb}
 use lib.ListN.{length, getD, take, drop}
 use Rattle.scan.specs.Scan.{pick}
 use Rattle.refusal.specs.Refusal.{mostPlaces}
+use Rattle.refusal.specs.Answer.{firstGround}
 use Rattle.refusal.specs.declared.Checked.{Checked}
 use Rattle.refusal.specs.declared.Checked.the-variants.{Good, Bad}
 use Rattle.refusal.specs.declared.Refusal.the-variants.{TableMalformed}
@@ -70,10 +71,6 @@ pub record WellFormed (t : List ℕ) : Type 0 where
 -- a record at fault, its index, in records of which the first has the index i
 abbrev faultAt : ℕ → Checked
 faultAt i = Bad (TableMalformed i)
-
-abbrev pub firstGround : Checked → Checked → Checked
-firstGround Good c = c
-firstGround (Bad r) c = Bad r
 
 -- The first at fault among records of which the first has the index i, with d more levels of T allowed, over at most n of them. A T that
 -- reaches past the end of what encloses it is at fault itself, and so is one too deep.

@@ -1,27 +1,24 @@
 -- A first look at a drawing: what its tokens weigh, and that none is refused.
 use mathlib.Core.Path.{_≡_, refl, sym, ap, _∙_}
-use mathlib.Core.List.{List, [], _∷_}
+use mathlib.Core.List.{List, _∷_}
 use mathlib.Core.Bool.{Bool, true, false, true≢false}
 use mathlib.Core.Logic.{_⊎_, inl, inr, ⊎-elim}
-use Prim.Native.Nat.{ℕ, zero, suc, _+_, _-_, _*_, _≤_, _<_}
+use Prim.Native.Nat.{ℕ, zero, suc, _+_, _-_, _≤_, _<_}
 use native.Mathlib.Omega.{arith}
-use native.Mathlib.Nat.{le-refl}
 use lib.Dec.{leb, ltb, eqb}
 use lib.Ieee.{Float}
 use lib.ListN.{length, getD}
-use borrow.Author.Tests.{le-leb, lt-leb, lt-ltb, ltb-true, eqb-true, leb-true}
-use Rattle.scan.specs.Scan.{pick, within, lower, inClass, isBlank, blankAt, past, trimStart}
+use borrow.Author.Tests.{le-leb, lt-leb, lt-ltb, eqb-true, leb-true}
+use Rattle.scan.specs.Scan.{pick, lower, inClass, isBlank, blankAt, past, trimStart}
 use Rattle.scan.specs.declared.Class.the-variants.{Letter as ALetter}
-use Rattle.scan.proofs.Laws.{le-or-lt}
 use Rattle.numeral.specs.Numeral.{F32, isSign, f32At}
-use Rattle.survey.specs.Survey.{isStop, Unplain}
+use Rattle.survey.specs.Survey.{Unplain}
 use Rattle.survey.proofs.Laws.{unplain-wider}
 use Rattle.survey.proofs.Long.{Ends, blank-stops}
 use Rattle.survey.proofs.Fields.{late-unplain}
-use Rattle.refusal.specs.declared.Checked.the-variants.{Good}
 use Rattle.tokens.specs.declared.Token.{Token}
 use Rattle.tokens.specs.declared.Token.the-variants.{Letter, Number, Refused, Other}
-use Rattle.tokens.specs.Tokens.{spells, inf, infinity, nan, special, oneLetter, numeralToken, tokenOf, wordEnd, tokenEnd, tokens, from, tokensGround}
+use Rattle.tokens.specs.Tokens.{spells, inf, infinity, nan, special, oneLetter, tokenOf, wordEnd, tokenEnd, from, tokensGround}
 use Rattle.tokens.specs.Inner.{rateOf, letterWeight, weight, Light}
 use Rattle.tokens.proofs.Words.{from-end, from-more}
 

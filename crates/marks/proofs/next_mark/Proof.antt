@@ -1,6 +1,5 @@
-use mathlib.Core.Path.{_≡_, refl, sym, ap, _∙_}
-use mathlib.Core.Bool.{true}
-use Prim.Native.Nat.{ℕ, _≤_, _<_}
+use mathlib.Core.Path.{refl, sym, _∙_}
+use Prim.Native.Nat.{_≤_, _<_}
 use native.Mathlib.Nat.{lt-of-le-of-lt}
 use lib.Dec.{lit≤}
 use borrow.Author.Tests.{lt-ltb}
@@ -10,8 +9,6 @@ use lib.Signed.{_<ℤ_}
 use borrow.Author.Needs.{needs}
 use mir.Syntax.{w32}
 use mir.ValLaws.{toZ-ofZ}
-use Rattle.refusal.specs.declared.Checked.the-variants.{Good}
-use Rattle.table.specs.Ground.{inTime}
 use Rattle.table.proofs.Grounds.{good-fine, in-time-size}
 use Rattle.marks.specs.Inner.{most}
 use Rattle.marks.specs.Answer.{marked}

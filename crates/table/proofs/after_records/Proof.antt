@@ -1,19 +1,13 @@
-use mathlib.Core.Path.{_∙_}
+use borrow.Author.Needs.{needs}
 use mir.Syntax.{w32}
 use mir.ValLaws.{toZ-ofZ}
-use Rattle.table.proofs.Grounds.{first-none, first-found}
-use borrow.Author.Needs.{needs}
 use Rattle.table.proofs.after_records.Statement.{statement}
 use Rattle.table.proofs.after_records.Tie as tie
 
 returns : tie.Need-returns
 returns c =
-    let s = c .before .before .before .before .before in
-    let e = rw (toZ-ofZ w32 (s .args .t) (s .fits .t), toZ-ofZ w32 (s .args .dur) (s .fits .dur)) at (c .check-times .ensures) in
-    e ∙ first-none _ (rw (c .before .before .before .excess .ensures) at (c .before .enum-told .given .1))
-
-returns-2 : tie.Need-returns-2
-returns-2 c = first-found _ (rw (c .before .before .before .excess .ensures) at (c .before .found .given .1))
+    let s = c .before .before .before .before in
+    rw (c .before .before .excess .ensures, c .before .check-times .ensures, toZ-ofZ w32 (s .args .t) (s .fits .t), toZ-ofZ w32 (s .args .dur) (s .fits .dur)) at (c .first-of .ensures)
 
 pub after-records-spec : {M : Type 1} → statement M
-after-records-spec = tie.close (tie.spec (λ c κs. search needs) (λ c. search needs) (λ c κs. search needs) (λ c. search needs) returns returns-2)
+after-records-spec = tie.close (tie.spec (λ c κs. search needs) (λ c κs. search needs) (λ c κs. search needs) returns)

@@ -1,6 +1,6 @@
 use borrow.Author.Needs.{needs}
-use Rattle.evaluators.proofs.apply_all.Statement.{statement}
-use Rattle.evaluators.proofs.apply_all.Tie as tie
+use Rattle.evaluate.proofs.apply_all.Statement.{statement}
+use Rattle.evaluate.proofs.apply_all.Tie as tie
 
 returns : tie.Need-returns
 returns c = rw (c .before .before .before .before .least .ensures, c .before .before .before .identity .ensures) at (c .apply-tags .ensures)
