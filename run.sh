@@ -22,33 +22,66 @@ older() { # FILE THAN..
     [ ! -e "$file" ] || [ -n "$(find "$@" -newer "$file" -print -quit)" ]
 }
 
-# Keeps what rt says, and tells of each crate, and of each function of the last, as it is proved: on a terminal in one
-# line, written anew.
-tell() { # LOG
-    local line form='run.sh: %s\n' wipe=''
+# A crate and all those it uses, by crates.txt: how many.
+needed() { # CRATE
+    awk -v crate="$1" '
+        function visit(name,    i, n, used) {
+            if (!(name in uses) || name in seen) return
+            seen[name] = 1
+            count++
+            n = split(uses[name], used, " ")
+            for (i = 1; i <= n; i++) visit(used[i])
+        }
+        { sub(/#.*/, "") }
+        i = index($0, ":") {
+            name = substr($0, 1, i - 1)
+            gsub(/[ \t]/, "", name)
+            uses[name] = substr($0, i + 1)
+        }
+        END {
+            visit(crate)
+            print count + 0
+        }' "$root/crates.txt"
+}
+
+# Keeps what rt says, and tells how many crates are proved as each one is: on a terminal in one line, written anew.
+# Those that have not changed are counted alone.
+tell() { # LOG CRATES
+    local line news proved=0 form='run.sh: %s\n' wipe=''
     if [ -t 2 ]; then form='\r\033[Krun.sh: %s' wipe='\r\033[K'; fi
     while IFS= read -r line; do
         printf '%s\n' "$line" >>"$1"
+        case $line in 'rt: '*' proved ('*) proved=$((proved + 1)) ;; *) continue ;; esac
+        news="$proved of $2 crates: ${line#rt: }"
         # shellcheck disable=SC2059
-        case $line in
-        'rt: '*' proved (unchanged'*) ;;
-        'rt: '*' proved ('* | 'fn '*': proved') printf "$form" "${line#* }" >&2 ;;
-        esac
+        case $line in *' proved (unchanged'*) ;; *) printf "$form" "$news" >&2 ;; esac
     done
     # shellcheck disable=SC2059
     printf "$wipe" >&2
 }
 
-# Proves the library. rt proves again only what has changed.
-prove() {
-    local log status=0
-    command -v rt >/dev/null || stop "rt is not on the PATH: the Rattle kit is missing"
+# Runs rt and tells of it. Where it fails, the end of what it said is shown.
+run_rt() { # CRATES ARGUMENTS..
+    local log status=0 crates=$1
+    shift
     log=$(mktemp)
-    say "proving and building the library, which takes minutes the first time"
-    (cd "$root" && rt staticlib hannuvel 2>&1 </dev/null) | tell "$log" || status=$?
+    (cd "$root" && rt "$@" 2>&1 </dev/null) | tell "$log" "$crates" || status=$?
     [ "$status" -eq 0 ] || tail -n 40 "$log" >&2
     rm -f "$log"
-    [ "$status" -eq 0 ] || stop "rt staticlib hannuvel ended with status $status"
+    [ "$status" -eq 0 ] || stop "rt $* ended with status $status"
+}
+
+# Proves the library and writes its archive. rt proves again only what has changed. rt check proves crates that do not
+# need each other side by side, on up to four cores; rt staticlib, which would prove one after the other, then takes what
+# is proved.
+prove() {
+    local crates
+    command -v rt >/dev/null || stop "rt is not on the PATH: the Rattle kit is missing"
+    crates=$(needed hannuvel)
+    say "proving the library, $crates crates, which takes minutes the first time"
+    run_rt "$crates" check hannuvel
+    say "building the library"
+    run_rt "$crates" staticlib hannuvel
 }
 
 build() {

@@ -1,6 +1,6 @@
 /* Hannuvel: reads the override tags of Sub Station Alpha subtitles into a table of tags; gives the state of these
- * tags at an instant, the next millisecond at which it may change, the karaoke syllables and the style in force; and
- * reads drawings into paths.
+ * tags at an instant, the next millisecond at which this state may change, the karaoke syllables and the style in
+ * force; and reads drawings into paths.
  *
  * The functions are those of crates/hannuvel, proved and compiled by `rt staticlib hannuvel` into
  * target/staticlib/libhannuvel.a, for programs on x86-64 Linux. They keep nothing between calls, allocate
@@ -347,7 +347,10 @@ uint64_t hannuvel_evaluate_at(const uint32_t *table, size_t words, int32_t t, in
 
 /* The first millisecond after t at which the state may change: before it every instant from t on has the state that t
  * has. The value of an answer is this mark as an int32_t in two's complement; or the extra is 1 and the value 0: there
- * is none. Beside a refusal stands no mark: the extra is 0 and the value the ground's place. */
+ * is none. Beside a refusal stands no mark: the extra is 0 and the value the ground's place.
+ *
+ * Marks are the state's, and do not speak of karaoke syllables. A host that shows syllables draws anew at the next
+ * mark, and also where a syllable moves the picture; see hannuvel_karaoke_kind. */
 uint64_t hannuvel_next_mark(const uint32_t *table, size_t words, int32_t t, int32_t duration);
 
 /* The style in force at t: the name that the last \r gave, a part of the block that the table was read from, or else
@@ -361,6 +364,10 @@ static inline uint32_t hannuvel_style_length(uint64_t answer) { return hannuvel_
 
 /* ---- Karaoke */
 
+/* When a syllable moves the picture, which neither a state nor a mark says: a fill or an outline at the start of its
+ * span; a sweep at every millisecond behind its start and up to its end, or, where the span is empty, at the one behind
+ * its start, at which hannuvel_progress goes from 0 to 1. A host that shows syllables draws anew at the earlier of the
+ * next mark and the next of these; examples/c works it out. */
 enum hannuvel_karaoke_kind {
     HANNUVEL_KARAOKE_FILL = 0,   /* \k: the fill switches when the syllable begins */
     HANNUVEL_KARAOKE_SWEEP = 1,  /* \kf and \K: the fill sweeps from left to right over the syllable */

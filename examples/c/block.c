@@ -1,6 +1,6 @@
-/* Reads an override block and prints its tags, the instants at which the picture may move, its karaoke syllables, and
- * its state and style at given instants: an example of the calls in include/hannuvel.h. All memory is on the stack, and
- * of a fixed size. */
+/* Reads an override block and prints its tags, the instants at which the line is to be drawn, its karaoke syllables,
+ * and its state and style at given instants: an example of the calls in include/hannuvel.h. All memory is on the stack,
+ * and of a fixed size. */
 #include "hannuvel.h"
 
 #include <stdio.h>
@@ -8,6 +8,7 @@
 #include <string.h>
 
 #define PLACES 64
+#define NEVER INT64_MAX
 
 /* What is printed of words: f an f32, n a number, s a signed number, p a part of the text by its offset and length. */
 struct field {
@@ -133,28 +134,53 @@ static void read_line(struct line *line) {
     line->syllables = answered("karaoke_spans", sung);
 }
 
-/* Prints the marks from the line's start to its end as ranges of milliseconds: outside them nothing moves. */
-static void print_marks(const struct line *line) {
-    int32_t first = 0, last = -1;
-    printf("the picture may move at");
-    for (;;) {
-        uint64_t answer = hannuvel_next_mark(line->table, line->words, last, line->duration);
-        int32_t mark = hannuvel_i32(answered("next_mark", answer));
-        int more = hannuvel_extra(answer) == 0 && mark <= line->duration;
-        if (more && mark == last + 1 && last >= 0) {
-            last = mark;
-            continue;
-        }
-        if (last >= 0) printf(" %d", first);
-        if (last > first) printf("-%d", last);
-        if (!more) break;
-        first = last = mark;
-    }
-    printf(last < 0 ? " no instant\n" : " ms\n");
-}
-
 static const uint32_t *syllable(const struct line *line, uint32_t place) {
     return line->spans + HANNUVEL_SPAN_WORDS * place;
+}
+
+/* The first millisecond after t at which a syllable moves the picture: a sweep at each of its milliseconds up to its
+ * end, and an empty one a millisecond behind its start, as hannuvel_progress has it; another where it begins. */
+static int64_t next_syllable(const struct line *line, int64_t t) {
+    int64_t next = NEVER;
+    for (uint32_t place = 0; place < line->syllables; place++) {
+        const uint32_t *span = syllable(line, place);
+        int64_t first = span[HANNUVEL_SPAN_START_MS], last = first;
+        if (span[HANNUVEL_SPAN_KIND] == HANNUVEL_KARAOKE_SWEEP) {
+            first++;
+            last = span[HANNUVEL_SPAN_END_MS] > first ? span[HANNUVEL_SPAN_END_MS] : first;
+        }
+        if (first <= t) first = t + 1;
+        if (first <= last && first < next) next = first;
+    }
+    return next;
+}
+
+/* The first millisecond after t at which the picture may move: at the next mark, which is the state's and does not
+ * speak of syllables, or where a syllable moves it, if that is earlier. */
+static int64_t next_move(const struct line *line, int32_t t) {
+    uint64_t answer = hannuvel_next_mark(line->table, line->words, t, line->duration);
+    int64_t mark = hannuvel_i32(answered("next_mark", answer));
+    if (hannuvel_extra(answer) == 1) mark = NEVER;
+    int64_t sung = next_syllable(line, t);
+    return mark < sung ? mark : sung;
+}
+
+/* Prints when the line is drawn: at its start, and at each later millisecond up to its end at which the picture may
+ * move, as ranges. What would move after the end is not shown any more. */
+static void print_moves(const struct line *line) {
+    int64_t next = next_move(line, 0);
+    if (next > line->duration) {
+        printf("drawn at 0 ms, then never anew\n");
+        return;
+    }
+    printf("drawn at 0 ms, then anew at");
+    while (next <= line->duration) {
+        int32_t first = (int32_t)next, last = first;
+        while ((next = next_move(line, last)) == (int64_t)last + 1 && next <= line->duration) last++;
+        printf(" %d", first);
+        if (last > first) printf("-%d", last);
+    }
+    printf(" ms\n");
 }
 
 /* Prints the syllables that the \k, \kf and \ko time. */
@@ -237,7 +263,7 @@ int main(int count, char **arguments) {
     uint32_t records = (uint32_t)line.words / HANNUVEL_RECORD_WORDS;
     printf("%s\n%u of %d records\n", line.text, records, PLACES);
     print_tags(line.text, line.table, records, 1);
-    print_marks(&line);
+    print_moves(&line);
     print_karaoke(&line);
     for (int i = 4; i < count; i++) {
         int32_t t = (int32_t)atol(arguments[i]);

@@ -17,6 +17,9 @@ run() { # ARGUMENTS..
     run '\rTop\clip(2,m 0 0 l 10 0 10 10 c)\an8' Default 500 0
     run '\t(500,500,\b1)\move(0,0,10,10,100,102)' Default 1000 101 500
     run '{\k50\t(\k99)\kf25\rTop\ko5}' Default 1000 250 625 800
+    run '{\kf50\k20}' Default 1000 250
+    run '{\fad(20,30)\k10\k10\kf0\k50\kf100\k10}' Default 1000
+    run '{\k50}' Default 1000
     run '\t(500,600,\rTop)' Default 1000 500 501
     run 'no tag' Default 1000 0
     run '\pos(x,1e5)' Default 1000

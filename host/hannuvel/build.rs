@@ -68,6 +68,9 @@ fn newest(path: &Path) -> Option<SystemTime> {
     entries.flatten().filter_map(|entry| newest(&entry.path())).max()
 }
 
+/// Proves and writes the archive by `rt staticlib` alone, which needs nothing done before: where nothing is proved yet
+/// it proves one crate after the other. `rt check hannuvel` beforehand, as in run.sh, proves crates side by side, and
+/// this then takes what was proved.
 fn prove(repository: &Path) {
     let mut teller = Teller::new();
     teller.tell("proving and building the library, which takes minutes the first time");

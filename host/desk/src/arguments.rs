@@ -125,7 +125,7 @@ pub struct Block {
     /// How long the line is shown, in milliseconds
     #[arg(long, value_name = "MS", default_value_t = 5000, allow_negative_numbers = true)]
     pub duration: i32,
-    /// Instants of the line, in milliseconds, at which to show the state and the next mark
+    /// Instants of the line, in milliseconds, at which to show the state and the next move of the picture
     #[arg(long, value_name = "MS", num_args = 1.., value_delimiter = ',', allow_negative_numbers = true)]
     pub at: Vec<i32>,
     /// The line's own style: shows the style in force at each instant

@@ -4,26 +4,30 @@ use crate::arguments::{Block, Reading};
 use crate::input::Text;
 use crate::karaoke;
 use crate::marks::Marks;
+use crate::moves::{Line, Next};
 use crate::places;
 use crate::ranges::Range;
 use crate::report::{Fits, Report, StateTold, TagTold};
 use crate::state_words::set_fields;
 use crate::stop::{Refused, Stop};
 use crate::tag_words::says;
-use hannuvel::{KaraokeSpan, RECORD_WORDS, Tags, parse_overrides, parse_raw_block};
+use hannuvel::{RECORD_WORDS, Tags, parse_overrides, parse_raw_block};
 use std::ops;
 
 pub fn answer(options: &Block, text: &Text) -> Result<Report, Stop> {
     let mut table = table(&options.block);
     let tags = read(&options.block, text, &mut table)?;
-    let spans = karaoke::spans(&tags)?;
-    let states = options.at.iter().map(|&at| state(options, &tags, &spans, at));
+    let line = Line::of(tags, options.duration)?;
+    let marks = Marks::of(&tags, options.duration, &options.at)?;
+    let moves = line.moves(&marks)?;
+    let states = moves.next.iter().map(|next| state(options, &line, next));
     Ok(Report {
         fits: Some(Fits::new(tags.places(), options.block.places.into(), text)),
-        marks: Some(Marks::of(&tags, options.duration, &options.at)?),
         states: Some(states.collect::<Result<_, Stop>>()?),
+        moves: Some(moves),
+        marks: Some(marks),
         tags: Some(told(&tags, &places::bytes_of(&tags, places::block_in(&text.text, options.block.raw)))),
-        syllables: Some(spans.iter().map(karaoke::syllable).collect()),
+        syllables: Some(line.spans.iter().map(karaoke::syllable).collect()),
         ..Report::new("block", text, Some(options.duration))
     })
 }
@@ -42,8 +46,9 @@ pub fn read<'t>(options: &Reading, text: &'t Text, table: &'t mut Vec<u32>) -> R
     read.map_err(Refused::lending(options.places.into()))
 }
 
-fn state(options: &Block, tags: &Tags, spans: &[KaraokeSpan], at_ms: i32) -> Result<StateTold, Stop> {
-    let duration = options.duration;
+/// The state at an instant, with the next move after it.
+fn state(options: &Block, line: &Line, next: &Next) -> Result<StateTold, Stop> {
+    let (tags, duration, at_ms) = (line.tags, line.duration, next.after_ms);
     let style = |own: &String| {
         let style = tags.style_in_force(at_ms, duration, own);
         style.map(|style| style.to_string()).map_err(Refused::style(own))
@@ -52,7 +57,8 @@ fn state(options: &Block, tags: &Tags, spans: &[KaraokeSpan], at_ms: i32) -> Res
         at_ms,
         fields: set_fields(&tags.evaluate_at(at_ms, duration)?),
         next_mark_ms: tags.next_mark(at_ms, duration)?,
-        sung: karaoke::sung(spans, at_ms)?,
+        next_move_ms: next.move_ms,
+        sung: karaoke::sung(&line.spans, at_ms)?,
         style: options.style.as_ref().map(style).transpose()?,
     })
 }

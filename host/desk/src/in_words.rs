@@ -3,7 +3,8 @@
 use crate::canvas;
 use crate::columns::{self, Cell, Look};
 use crate::karaoke::Syllable;
-use crate::marks::{Marks, Next};
+use crate::marks::{self, Marks};
+use crate::moves::{self, Moves};
 use crate::ranges::{self, grouped};
 use crate::report::{Fits, Frames, Report, StateTold, TagTold};
 use codespan_reporting::term::termcolor::Buffer;
@@ -20,10 +21,10 @@ pub fn write(report: &Report, to: &mut Buffer) -> io::Result<()> {
     let what = if report.path.is_some() { "commands" } else { "records" };
     let mut head = Vec::new();
     head.extend(report.fits.as_ref().map(|fits| fitting(fits, what)));
-    if let Some(marks) = &report.marks {
-        head.extend(moving(marks, duration));
-        head.extend(report.syllables.as_deref().and_then(singing));
-        head.extend(next_marks(marks));
+    if let (Some(marks), Some(moves)) = (&report.marks, &report.moves) {
+        let syllables = report.syllables.as_deref().unwrap_or(&[]);
+        head.extend(moving(marks, moves, syllables, duration));
+        head.extend(next_moves(marks, moves, !syllables.is_empty()));
     }
     head.extend(report.frames.iter().flat_map(|frames| redrawn(frames, duration)));
     head.extend(report.picture.as_ref().map(|picture| vec![heading("picture"), picture.as_str().into()]));
@@ -61,33 +62,59 @@ fn fitting(fits: &Fits, what: &str) -> Vec<Cell> {
     vec![heading("fits"), Cell(Look::Good, format!("{places} {what}, {bytes} bytes"))]
 }
 
-fn moving(marks: &Marks, duration: i32) -> Vec<Vec<Cell>> {
-    let more = if marks.whole { "" } else { " and on; no more were walked" };
-    let ranges = ranges::listed(&marks.ranges, MOST_LISTED);
-    let count = grouped(ranges::total(&marks.ranges));
-    let line = format!("{count} marks in a line of {} ms", grouped(duration));
-    let mut rows = vec![
-        vec![heading("moves"), Cell(Look::Good, format!("{ranges}{more}"))],
-        vec!["".into(), Cell(Look::Faint, line)],
-    ];
-    rows.extend(marks.beyond.map(|mark| vec!["".into(), Cell(Look::Faint, format!("after the line next at {mark}"))]));
+/// When the picture moves; below, the marks and the syllables that move it, told apart where there are both.
+fn moving(marks: &Marks, moves: &Moves, syllables: &[Syllable], duration: i32) -> Vec<Vec<Cell>> {
+    let sung = !syllables.is_empty();
+    let more = if moves.whole { "" } else { "; no more marks were walked" };
+    let when = format!("{}{more}", moves.told(sung, MOST_LISTED));
+    let mut rows = vec![vec![heading("moves"), Cell(Look::Good, when)]];
+    let mut below = |line: String| rows.push(vec!["".into(), Cell(Look::Faint, line)]);
+    let count = ranges::counted(ranges::total(&marks.ranges), "mark");
+    let of_these = match sung && !marks.ranges.is_empty() {
+        true => format!(", at {}", ranges::listed(&marks.ranges, MOST_LISTED)),
+        false => String::new(),
+    };
+    below(format!("{count} in a line of {} ms{of_these}", grouped(duration)));
+    if let Some(line) = singing(moves, syllables, duration) {
+        below(line);
+    }
+    if let Some(mark) = marks.beyond {
+        below(format!("next mark after the line: {mark}"));
+    }
     rows
 }
 
-/// What moves besides the marks.
-fn singing(syllables: &[Syllable]) -> Option<Vec<Cell>> {
+/// The syllables, and when they move the picture.
+fn singing(moves: &Moves, syllables: &[Syllable], duration: i32) -> Option<String> {
     let (first, last) = (syllables.first()?, syllables.last()?);
-    let line = format!("besides, syllables from {} to {} ms: {}", first.start_ms, last.end_ms, syllables.len());
-    Some(vec!["".into(), Cell(Look::Faint, line)])
+    let count = ranges::counted(syllables.len() as i64, "syllable");
+    let when = match moves.by_syllables.is_empty() {
+        true => "nothing after the line's start".into(),
+        false => format!("at {}", ranges::listed(&moves.by_syllables, MOST_LISTED)),
+    };
+    let late = match syllables.iter().filter(|syllable| i64::from(syllable.start_ms) > i64::from(duration)).count() {
+        0 => String::new(),
+        1 => "; 1 begins after the line's end".into(),
+        late => format!("; {} begin after the line's end", grouped(late as i64)),
+    };
+    Some(format!("{count} from {} to {} ms, moving {when}{late}", first.start_ms, last.end_ms))
 }
 
-fn next_marks(marks: &Marks) -> Vec<Vec<Cell>> {
-    let row = |(place, next): (usize, &Next)| {
-        let mark = next.mark_ms.map_or("never".into(), |mark| mark.to_string());
-        let name = if place == 0 { heading("next") } else { "".into() };
-        vec![name, format!("after {}: {mark}", next.after_ms).into()]
+/// The next move after each instant, and the next mark where it is another: that is what the library's call gives.
+fn next_moves(marks: &Marks, moves: &Moves, sung: bool) -> Vec<Vec<Cell>> {
+    let told = |mark: Option<i64>, moved: Option<i64>| match (moved, mark) {
+        (Some(moved), Some(mark)) if moved == mark => format!("{moved}{}", if sung { ", a mark" } else { "" }),
+        (Some(moved), Some(mark)) => format!("{moved}, a syllable; next mark {mark}"),
+        (Some(moved), None) => format!("{moved}, a syllable; no later mark"),
+        (None, Some(mark)) => format!("never in the line; next mark {mark}"),
+        (None, None) => "never".into(),
     };
-    marks.next.iter().enumerate().map(row).collect()
+    let row = |(place, (mark, moved)): (usize, (&marks::Next, &moves::Next))| {
+        let name = if place == 0 { heading("next") } else { "".into() };
+        let told = told(mark.mark_ms.map(i64::from), moved.move_ms);
+        vec![name, format!("after {}: {told}", mark.after_ms).into()]
+    };
+    marks.next.iter().zip(&moves.next).enumerate().map(row).collect()
 }
 
 fn redrawn(frames: &Frames, duration: i32) -> Vec<Vec<Cell>> {

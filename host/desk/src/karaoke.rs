@@ -45,25 +45,23 @@ pub fn sung(spans: &[KaraokeSpan], at: i32) -> Result<Option<Sung>, Refusal> {
     found.map(|place| Ok(Sung { syllable: place + 1, progress: spans[place].progress(at)? })).transpose()
 }
 
-/// When a syllable moves the picture: a sweep up to its end, another where it begins.
+/// When a syllable moves the picture: a sweep at each of its milliseconds up to its end, as its progress does, and an
+/// empty one a millisecond behind its start; another where it begins.
 pub fn moves(span: &KaraokeSpan) -> Range {
     let (start, end) = (i64::from(span.start_ms), i64::from(span.end_ms));
     match span.kind {
-        KaraokeKind::Sweep => Range::new(start + 1, end),
+        KaraokeKind::Sweep => Range::new(start + 1, end.max(start + 1)),
         KaraokeKind::Fill | KaraokeKind::Outline => Range::new(start, start),
     }
 }
 
-/// The first millisecond after t at which a syllable moves the picture. Syllables follow one another, so the first
-/// that moves at all after t is the one.
-pub fn next_move(spans: &[KaraokeSpan], t: i64) -> Option<i64> {
-    let later = spans.partition_point(|span| i64::from(span.end_ms) < t);
-    let after = |span: &KaraokeSpan| {
-        let range = moves(span);
-        let first = range.first.max(t + 1);
-        (first <= range.last).then_some(first)
-    };
-    spans[later..].iter().find_map(after)
+/// How far a syllable is filled at an instant: a sweep as far as its progress is, another wholly from its start on.
+#[cfg(test)]
+pub fn filled(span: &KaraokeSpan, t: i32) -> f32 {
+    match span.kind {
+        KaraokeKind::Sweep => span.progress(t).unwrap(),
+        KaraokeKind::Fill | KaraokeKind::Outline => f32::from(i64::from(t) >= span.start_ms.into()),
+    }
 }
 
 #[cfg(test)]
@@ -76,21 +74,16 @@ mod tests {
     }
 
     #[test]
-    fn syllables_move_in_turn() {
-        let spans = [span(Fill, 0, 500), span(Sweep, 500, 503), span(Outline, 503, 503), span(Fill, 503, 900)];
-        let mut at = -1;
-        let mut found = Vec::new();
-        while let Some(next) = next_move(&spans, at) {
-            found.push(next);
-            at = next;
+    fn a_syllable_moves_where_it_changes() {
+        for kind in [Fill, Sweep, Outline] {
+            for (start_ms, end_ms) in [(0, 0), (0, 1), (0, 20), (5, 5), (5, 6), (5, 25)] {
+                let span = span(kind, start_ms, end_ms);
+                let changing = (-5..30).filter(|&t| filled(&span, t - 1) < filled(&span, t)).map(i64::from);
+                let mut expected = Vec::new();
+                changing.for_each(|t| crate::ranges::add(&mut expected, t));
+                assert_eq!([moves(&span)], *expected, "{span:?}");
+            }
         }
-        assert_eq!(found, [0, 501, 502, 503]);
-    }
-
-    #[test]
-    fn an_empty_sweep_never_moves() {
-        assert_eq!(next_move(&[span(Sweep, 5, 5), span(Fill, 5, 9)], 0), Some(5));
-        assert_eq!(next_move(&[span(Sweep, 5, 5)], 0), None);
     }
 
     #[test]

@@ -14,6 +14,7 @@ mod in_words;
 mod input;
 mod karaoke;
 mod marks;
+mod moves;
 mod output;
 mod places;
 mod progress;

@@ -1,4 +1,5 @@
-//! The marks of a block, as ranges: what walking from one next mark to the other gives.
+//! The marks of a block, as ranges: what walking from one next mark to the other gives. They are the state's; when the
+//! picture moves, which syllables do too, is in moves.rs.
 
 use crate::progress::Progress;
 use crate::ranges::{self, Range};
@@ -9,7 +10,7 @@ use serde::Serialize;
 /// 83 minutes.
 pub const MOST_MARKS: i64 = 5_000_000;
 
-/// When the picture moves.
+/// When the state may change.
 #[derive(Debug, Serialize)]
 pub struct Marks {
     /// The marks after 0 and up to the duration.

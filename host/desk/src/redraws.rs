@@ -4,38 +4,40 @@ use crate::arguments::Redraws;
 use crate::block;
 use crate::input::Text;
 use crate::karaoke;
+use crate::moves::Line;
 use crate::progress::Progress;
 use crate::ranges::{self, Range};
 use crate::rate::Rate;
 use crate::report::{Frames, Report};
 use crate::stop::Stop;
-use hannuvel::{KaraokeSpan, Refusal, Tags};
+use hannuvel::Refusal;
 
 pub fn answer(options: &Redraws, text: &Text) -> Result<Report, Stop> {
     let mut table = block::table(&options.block);
     let tags = block::read(&options.block, text, &mut table)?;
-    let spans = karaoke::spans(&tags)?;
-    let frames = frames(&tags, &spans, options.duration, options.rate)?;
+    let line = Line::of(tags, options.duration)?;
     Ok(Report {
-        frames: Some(frames),
-        syllables: Some(spans.iter().map(karaoke::syllable).collect()),
+        frames: Some(frames(&line, options.rate)?),
+        syllables: Some(line.spans.iter().map(karaoke::syllable).collect()),
         ..Report::new("redraws", text, Some(options.duration))
     })
 }
 
-/// The frames whose instants lie before the duration, and those of them that must be redrawn: the first, and each that
-/// has a mark or a moving syllable after the instant of the frame before it and up to its own.
-fn frames(tags: &Tags, spans: &[KaraokeSpan], duration: i32, rate: Rate) -> Result<Frames, Refusal> {
-    let count = rate.frame_from(duration.max(0).unsigned_abs().into());
+/// The frames whose instants lie before the duration, and those of them that must be redrawn: the first, and each for
+/// which the picture moves after the instant of the frame before it and up to its own.
+fn frames(line: &Line, rate: Rate) -> Result<Frames, Refusal> {
+    let count = rate.frame_from(line.duration.max(0).unsigned_abs().into());
     let (mut redrawn, mut next) = (Vec::new(), Some(0));
     let mut progress = Progress::new("walking the frames", count as i64);
     while let Some(frame) = next.filter(|&frame| frame < count) {
         ranges::add(&mut redrawn, frame as i64);
         progress.step(frame as i64);
-        next = next_move(tags, spans, rate.instant(frame), duration)?.map(|mark| rate.frame_from(mark));
+        // A frame's instant lies before the duration, and so in an i32's range; a move lies after it.
+        let moved = line.next_move(rate.instant(frame) as i32)?;
+        next = moved.map(|instant| rate.frame_from(instant.unsigned_abs()));
     }
     if count == 0 {
-        tags.next_mark(0, duration)?;
+        line.next_move(0)?;
     }
     Ok(summary(rate, count, redrawn))
 }
@@ -46,24 +48,20 @@ fn summary(rate: Rate, count: u64, ranges: Vec<Range>) -> Frames {
     Frames { rate: rate.per_second(), count, redrawn, saved, ranges }
 }
 
-/// The first millisecond after an instant of the line at which the picture may move.
-fn next_move(tags: &Tags, spans: &[KaraokeSpan], instant: u64, duration: i32) -> Result<Option<u64>, Refusal> {
-    // A frame's instant lies before the duration, so both are in an i32's range.
-    let mark = tags.next_mark(instant as i32, duration)?.map(i64::from);
-    let sung = karaoke::next_move(spans, instant as i64);
-    Ok(mark.into_iter().chain(sung).min().map(i64::unsigned_abs))
-}
-
 #[cfg(test)]
 mod tests {
     use super::*;
+    use crate::marks::Marks;
     use hannuvel::parse_overrides;
 
-    fn told(text: &str, duration: i32, rate: &str) -> (u64, u64, String) {
+    fn of(text: &str, duration: i32, rate: &str) -> Frames {
         let mut table = [0; 800];
-        let tags = parse_overrides(text, &mut table).unwrap();
-        let spans = karaoke::spans(&tags).unwrap();
-        let frames = frames(&tags, &spans, duration, rate.parse().unwrap()).unwrap();
+        let line = Line::of(parse_overrides(text, &mut table).unwrap(), duration).unwrap();
+        frames(&line, rate.parse().unwrap()).unwrap()
+    }
+
+    fn told(text: &str, duration: i32, rate: &str) -> (u64, u64, String) {
+        let frames = of(text, duration, rate);
         (frames.redrawn, frames.count, ranges::listed(&frames.ranges, 9))
     }
 
@@ -94,7 +92,7 @@ mod tests {
                     ranges::add(&mut expected, frame as i64);
                 }
             }
-            assert_eq!(frames(&tags, &[], 1000, rate).unwrap().ranges, expected, "{text}");
+            assert_eq!(of(text, 1000, "24000/1001").ranges, expected, "{text}");
         }
     }
 
@@ -102,5 +100,19 @@ mod tests {
     fn syllables_redraw_too() {
         assert_eq!(told(r"\k50\k50", 1000, "10"), (2, 10, "0, 5".into()));
         assert_eq!(told(r"\k50\kf20\k30", 1000, "10"), (3, 10, "0, 6–7".into()));
+        assert_eq!(told(r"\kf50\k20", 1000, "10"), (6, 10, "0–5".into()));
+        assert_eq!(told(r"\k50\kf0\k50", 1000, "100"), (3, 100, "0, 50–51".into()));
+    }
+
+    /// At a frame a millisecond those redrawn are the first, and the moves before the line's end.
+    #[test]
+    fn frames_are_the_moves() {
+        for text in [r"\kf5\k2", r"\fad(20,30)\k1\kf1\kf0\ko3", r"\k3\kf99", r"\k100\kf0", r"\k10", ""] {
+            let mut table = [0; 800];
+            let line = Line::of(parse_overrides(text, &mut table).unwrap(), 100).unwrap();
+            let moves = line.moves(&Marks::of(&line.tags, 100, &[]).unwrap()).unwrap().ranges;
+            let drawn = ranges::joined([Range::new(0, 0)].into_iter().chain(moves));
+            assert_eq!(of(text, 100, "1000").ranges, ranges::within(&drawn, Range::new(0, 99)), "{text}");
+        }
     }
 }

@@ -4,6 +4,7 @@ use crate::arguments::Command;
 use crate::input::Text;
 use crate::karaoke::{Sung, Syllable};
 use crate::marks::Marks;
+use crate::moves::Moves;
 use crate::ranges::Range;
 use crate::refusal;
 use crate::state_words::Field;
@@ -20,6 +21,7 @@ pub struct Report {
     pub duration_ms: Option<i32>,
     pub refusal: Option<refusal::Told>,
     pub fits: Option<Fits>,
+    pub moves: Option<Moves>,
     pub marks: Option<Marks>,
     pub tags: Option<Vec<TagTold>>,
     pub syllables: Option<Vec<Syllable>>,
@@ -78,6 +80,7 @@ pub struct StateTold {
     #[serde(serialize_with = "by_name")]
     pub fields: Vec<Field>,
     pub next_mark_ms: Option<i32>,
+    pub next_move_ms: Option<i64>,
     pub sung: Option<Sung>,
     pub style: Option<String>,
 }

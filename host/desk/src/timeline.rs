@@ -7,6 +7,7 @@ use crate::curves::{self, Panel};
 use crate::input::Text;
 use crate::karaoke;
 use crate::marks::Marks;
+use crate::moves::{Line, Moves};
 use crate::ranges::{self, Range, grouped};
 use crate::report::{Fits, Report};
 use crate::stop::Stop;
@@ -38,42 +39,46 @@ const SUNG: RGBColor = RGBColor(0xE0, 0x8A, 0x00);
 pub fn answer(options: &Timeline, text: &Text) -> Result<Report, Stop> {
     let mut table = block::table(&options.block);
     let tags = block::read(&options.block, text, &mut table)?;
+    let line = Line::of(tags, options.duration)?;
     let marks = Marks::of(&tags, options.duration, &[])?;
-    let spans = karaoke::spans(&tags)?;
-    let moving = marks.moving(options.duration);
-    let (panels, unset) = curves::panels(&tags, &moving, options.duration)?;
-    let line = Line {
+    let moves = line.moves(&marks)?;
+    let marked = marks.moving(options.duration);
+    let (panels, unset) = curves::panels(&tags, &marked, options.duration)?;
+    let picture = Picture {
         text,
         duration: options.duration,
         marks: &marks,
-        moving: &moving,
-        spans: &spans,
+        marked: &marked,
+        moves: &moves,
+        spans: &line.spans,
         panels: &panels,
         unset: &unset,
     };
-    canvas::write(&options.svg, (WIDTH, line.height()), |root| line.draw(root))?;
+    canvas::write(&options.svg, (WIDTH, picture.height()), |root| picture.draw(root))?;
     Ok(Report {
         fits: Some(Fits::new(tags.places(), options.block.places.into(), text)),
+        moves: Some(moves),
         marks: Some(marks),
-        syllables: Some(spans.iter().map(karaoke::syllable).collect()),
+        syllables: Some(line.spans.iter().map(karaoke::syllable).collect()),
         picture: Some(options.svg.display().to_string()),
         ..Report::new("timeline", text, Some(options.duration))
     })
 }
 
 /// What the picture shows.
-struct Line<'a> {
+struct Picture<'a> {
     text: &'a Text,
     duration: i32,
     marks: &'a Marks,
     /// Where there may be marks.
-    moving: &'a [Range],
+    marked: &'a [Range],
+    moves: &'a Moves,
     spans: &'a [KaraokeSpan],
     panels: &'a [Panel],
     unset: &'a [&'static str],
 }
 
-impl Line<'_> {
+impl Picture<'_> {
     fn height(&self) -> i32 {
         let panels = PANEL * self.panels.len() as i32;
         TITLE + panels + self.syllables() + MARKS + FOOT
@@ -108,10 +113,10 @@ impl Line<'_> {
     fn title(&self, area: &Area) -> Drawn {
         let text = Font { family: "monospace", ..Font::new(15, INK) };
         word(area, &canvas::cut(&self.text.text, 92), (20, 22), text)?;
-        let marks = grouped(ranges::total(&self.marks.ranges));
-        let ranges = ranges::listed(&self.marks.ranges, 8);
-        let more = if self.marks.whole { "" } else { " and on" };
-        let line = format!("{} ms; {marks} marks: {ranges}{more}", grouped(self.duration));
+        let moves = self.moves.told(!self.spans.is_empty(), 8);
+        let marks = ranges::counted(ranges::total(&self.marks.ranges), "mark");
+        let syllables = ranges::counted(self.spans.len() as i64, "syllable");
+        let line = format!("{} ms; moves: {moves}; {marks}, {syllables}", grouped(self.duration));
         word(area, &line, (20, 44), Font::new(12, FAINT))
     }
 
@@ -143,9 +148,8 @@ impl Line<'_> {
             let corners = [(range.first as f64 - 1.0, scale.start), (range.last as f64, scale.end)];
             Rectangle::new(corners, colour.filled())
         };
-        let sung: Vec<Range> = self.spans.iter().map(karaoke::moves).filter(|range| range.len() > 0).collect();
-        chart.draw_series(sung.iter().map(|range| shade(range, SINGING)))?;
-        chart.draw_series(self.moving.iter().map(|range| shade(range, MARKED)))?;
+        chart.draw_series(self.moves.by_syllables.iter().map(|range| shade(range, SINGING)))?;
+        chart.draw_series(self.marked.iter().map(|range| shade(range, MARKED)))?;
         Ok(chart)
     }
 
@@ -190,24 +194,33 @@ impl Line<'_> {
         word(area, &format!("{} of them", self.spans.len()), (column, 36), Font::new(12, FAINT))
     }
 
+    /// One of them. What lies behind the line is cut off, and the frame left open there.
     fn bar(&self, chart: &mut Chart, place: usize, span: &KaraokeSpan) -> Drawn {
         let (start, end) = (f64::from(span.start_ms), f64::from(span.end_ms));
+        let shown = end.min(self.end());
+        if start >= self.end() {
+            return Ok(());
+        }
         let inside = match span.kind {
             KaraokeKind::Fill => SUNG.mix(0.55),
             KaraokeKind::Sweep => SUNG.mix(0.15),
             KaraokeKind::Outline => WHITE.mix(1.0),
         };
-        chart.draw_series([Rectangle::new([(start, 0.1), (end, 0.9)], inside.filled())])?;
-        if span.kind == KaraokeKind::Sweep {
-            let swept = vec![(start, 0.1), (end, 0.1), (end, 0.9)];
+        chart.draw_series([Rectangle::new([(start, 0.1), (shown, 0.9)], inside.filled())])?;
+        if span.kind == KaraokeKind::Sweep && start < end {
+            let height = 0.1 + 0.8 * (shown - start) / (end - start);
+            let swept = vec![(start, 0.1), (shown, 0.1), (shown, height)];
             chart.draw_series([Polygon::new(swept, SUNG.mix(0.55))])?;
         }
-        let frame = [(start, 0.1), (end, 0.1), (end, 0.9), (start, 0.9), (start, 0.1)];
+        let mut frame = vec![(shown, 0.9), (start, 0.9), (start, 0.1), (shown, 0.1)];
+        if shown == end {
+            frame.push((shown, 0.9));
+        }
         chart.draw_series([PathElement::new(frame, SUNG.stroke_width(px(1) as u32))])?;
         let name = (place + 1).to_string();
-        if self.points(end - start) > 8.0 * name.len() as f64 && start < self.end() {
+        if self.points(shown - start) > 8.0 * name.len() as f64 {
             let font = Font { at: HPos::Center, ..Font::new(12, INK) };
-            let middle = (start + end.min(self.end())) / 2.0;
+            let middle = (start + shown) / 2.0;
             chart.draw_series([plotters::element::Text::new(name, (middle, 0.5), font.style())])?;
         }
         Ok(())

@@ -73,6 +73,121 @@ fn marks_beyond_the_line() {
     insta::assert_snapshot!(run(&["block", r"\t(900,3000,\fs20)", "--duration", "1000"]));
 }
 
+// ---- when the picture moves
+
+/// The rows of a block's first lines, from `moves` on: what stands beside `moves` and `next`, and between.
+fn moves(arguments: &[&str]) -> Vec<String> {
+    let shown = run(&[&["block"], arguments].concat());
+    let rows = shown.lines().skip_while(|line| !line.starts_with("moves ")).take_while(|line| !line.is_empty());
+    rows.map(|line| line[7..].into()).collect()
+}
+
+#[test]
+fn syllables_alone_move_the_picture() {
+    insta::assert_snapshot!(run(&["block", r"\kf50\k20", "--at", "0", "100", "500", "--duration", "1000"]));
+}
+
+#[test]
+fn marks_and_syllables_are_told_apart() {
+    let text = r"\fad(200,300)\k10\kf20\ko20\k20";
+    assert_eq!(
+        moves(&[text, "--duration", "1000", "--at=-5,0,150,200,300,700,1000"]),
+        [
+            "1–300, 500, 701–1000",
+            "500 marks in a line of 1,000 ms, at 1–200, 701–1000",
+            "4 syllables from 0 to 700 ms, moving at 101–300, 500",
+            "after -5: 0, a syllable; next mark 1",
+            "after 0: 1, a mark",
+            "after 150: 151, a mark",
+            "after 200: 201, a syllable; next mark 701",
+            "after 300: 500, a syllable; next mark 701",
+            "after 700: 701, a mark",
+            "after 1000: never",
+        ]
+    );
+}
+
+/// Never is for a line that has neither marks nor syllables; one that begins with the line moves nothing later.
+#[test]
+fn what_never_moves() {
+    assert_eq!(moves(&[r"\fs20\pos(1,2)", "--at", "0"]), ["never", "0 marks in a line of 5,000 ms", "after 0: never"]);
+    assert_eq!(
+        moves(&[r"\k50", "--at", "0"]),
+        [
+            "not after the line's start",
+            "0 marks in a line of 5,000 ms",
+            "1 syllable from 0 to 500 ms, moving nothing after the line's start",
+            "after 0: never",
+        ]
+    );
+}
+
+#[test]
+fn karaoke_inside_a_transform_makes_no_syllable() {
+    let marks = ["1–10", "10 marks in a line of 5,000 ms", "after 5: 6"];
+    assert_eq!(moves(&[r"\t(0,10,\kf50\k20)", "--at", "5"]), marks);
+    assert_eq!(moves(&[r"\t(0,10,\fs20)", "--at", "5"]), marks);
+}
+
+#[test]
+fn syllables_beyond_the_line() {
+    assert_eq!(
+        moves(&[r"\k50\kf100\k10\kf10", "--duration", "1000", "--at", "500", "1000"]),
+        [
+            "501–1000",
+            "0 marks in a line of 1,000 ms",
+            "4 syllables from 0 to 1700 ms, moving at 501–1000; 2 begin after the line's end",
+            "after 500: 501, a syllable; no later mark",
+            "after 1000: never",
+        ]
+    );
+    assert_eq!(
+        moves(&[r"\k100\k10", "--duration", "999"])[2],
+        "2 syllables from 0 to 1100 ms, moving nothing after the line's start; 1 begins after the line's end"
+    );
+    assert_eq!(moves(&[r"\k100\k10", "--duration", "1000"])[2], "2 syllables from 0 to 1100 ms, moving at 1000");
+}
+
+#[test]
+fn marks_after_the_line_are_not_its_own() {
+    let rows = moves(&[r"\t(900,3000,\fs20)", "--duration", "1000", "--at", "0", "1000"]);
+    assert_eq!(
+        rows[2..],
+        ["next mark after the line: 1001", "after 0: 901", "after 1000: never in the line; next mark 1001"]
+    );
+}
+
+/// Every command has the same moves, and the marks of JSON stay those of the state.
+#[test]
+fn one_answer_for_all_commands() {
+    let svg = file("moves.svg");
+    let svg = svg.to_str().unwrap();
+    for text in [r"\kf50\k20", r"\fad(200,300)", r"\fad(200,300)\k10\kf20\ko20\k20", "no tag"] {
+        let line = ["--duration", "1000"];
+        let block = json(&[&["block", text, "--at", "0"], &line[..]].concat()).1;
+        let timeline = json(&[&["timeline", text, "--svg", svg], &line[..]].concat()).1;
+        let redraws = json(&[&["redraws", text, "--rate", "1000"], &line[..]].concat()).1;
+        let ranges = &block["moves"]["ranges"];
+        assert_eq!(*ranges, timeline["moves"]["ranges"], "{text}");
+        assert_eq!(block["marks"]["ranges"], timeline["marks"]["ranges"], "{text}");
+        // At a frame a millisecond those redrawn are the first, and the moves before the line's end.
+        let count = |ranges: &Value| {
+            let length =
+                |range: &Value| range["last"].as_i64().unwrap().min(999) - range["first"].as_i64().unwrap() + 1;
+            ranges.as_array().unwrap().iter().map(length).sum::<i64>()
+        };
+        assert_eq!(redraws["frames"]["redrawn"], 1 + count(ranges), "{text}");
+        assert_eq!(block["moves"]["next"][0]["move_ms"], ranges[0]["first"], "{text}");
+        assert_eq!(block["states"][0]["next_move_ms"], ranges[0]["first"], "{text}");
+    }
+    let karaoke = json(&["block", r"\kf50\k20", "--at", "0"]).1;
+    assert_eq!(karaoke["marks"]["ranges"], Value::Array(vec![]));
+    assert_eq!(karaoke["marks"]["next"][0]["mark_ms"], Value::Null);
+    assert_eq!(karaoke["states"][0]["next_mark_ms"], Value::Null);
+    assert_eq!(karaoke["moves"]["by_syllables"], karaoke["moves"]["ranges"]);
+    assert_eq!(karaoke["moves"]["next"][0]["move_ms"], 1);
+}
+
 #[test]
 fn a_text_with_control_characters() {
     let shown = run(&["block", "\\fnA\x1b[31m\nB\\fs20"]);
@@ -259,6 +374,21 @@ fn a_timeline() {
         assert!(svg.contains(name), "{name}");
     }
     assert!(svg.starts_with("<svg width=\"980\""));
+}
+
+/// The title says when the picture moves, by marks or syllables.
+#[test]
+fn a_timeline_of_syllables() {
+    let svg = file("syllables.svg");
+    let picture = |text: &str| {
+        let shown = run(&["timeline", text, "--duration", "1000", "--svg", svg.to_str().unwrap()]);
+        assert!(shown.starts_with("status 0\n"), "{shown}");
+        fs::read_to_string(&svg).unwrap()
+    };
+    assert!(picture(r"\kf50\k20").contains("1,000 ms; moves: 1–500; 0 marks, 2 syllables"));
+    assert!(picture(r"\fad(200,300)").contains("1,000 ms; moves: 1–200, 701–1000; 500 marks, 0 syllables"));
+    assert!(picture(r"\fad(200,300)\k50").contains("1,000 ms; moves: 1–200, 701–1000; 500 marks, 1 syllable"));
+    assert!(picture("no tag").contains("1,000 ms; moves: never; 0 marks, 0 syllables"));
 }
 
 #[test]

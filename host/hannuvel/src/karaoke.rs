@@ -3,14 +3,17 @@
 use crate::{Refusal, SPAN_WORDS, words};
 use std::fmt;
 
-/// Which tag of the \k family timed a syllable.
+/// Which tag of the \k family timed a syllable, and so when it moves the picture. No state and no mark speaks of
+/// syllables: a host that shows them draws anew at the next mark, or where a syllable moves if that is earlier.
 #[derive(Clone, Copy, Debug, PartialEq, Eq, Hash)]
 pub enum KaraokeKind {
-    /// \k: the fill switches when the syllable begins.
+    /// \k: the fill switches when the syllable begins. It moves at the start of its span.
     Fill,
-    /// \kf and \K: the fill sweeps from left to right over the syllable.
+    /// \kf and \K: the fill sweeps from left to right over the syllable. It moves at every millisecond behind the start
+    /// of its span and up to the end; where the span is empty, at the millisecond behind its start, at which
+    /// [`progress`](KaraokeSpan::progress) goes from 0 to 1.
     Sweep,
-    /// \ko: the outline appears when the syllable begins.
+    /// \ko: the outline appears when the syllable begins. It moves at the start of its span.
     Outline,
 }
 

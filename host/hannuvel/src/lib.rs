@@ -16,6 +16,9 @@
 //! # Ok::<(), hannuvel::Refusal>(())
 //! ```
 //!
+//! The next mark is the state's. It does not speak of karaoke syllables, which move the picture too: when, is said at
+//! [`KaraokeKind`].
+//!
 //! A call that cannot be answered is refused: [`Refusal`] names one of nine grounds with its place or count. Beside a
 //! refusal no lent word is touched.
 //!

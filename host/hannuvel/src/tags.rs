@@ -190,7 +190,10 @@ impl<'t> Tags<'t> {
     }
 
     /// The first millisecond after t at which the state may change: before it every instant from t on has the state
-    /// that t has. `None` if nothing changes any more.
+    /// that t has. `None` if it changes no more.
+    ///
+    /// Marks are the state's, and do not speak of syllables: a host that shows these draws anew also where one moves
+    /// the picture, as [`KaraokeKind`](crate::KaraokeKind) has it.
     ///
     /// # Errors
     ///
@@ -201,6 +204,9 @@ impl<'t> Tags<'t> {
     /// let tags = hannuvel::parse_overrides(r"\fad(200,300)", &mut table)?;
     /// assert_eq!(tags.next_mark(200, 1000)?, Some(701));
     /// assert_eq!(tags.next_mark(1000, 1000)?, None);
+    ///
+    /// let tags = hannuvel::parse_overrides(r"\kf50\k20", &mut table)?;
+    /// assert_eq!(tags.next_mark(0, 1000)?, None);
     /// # Ok::<(), hannuvel::Refusal>(())
     /// ```
     pub fn next_mark(&self, t_in_cue_ms: i32, cue_duration_ms: i32) -> Result<Option<i32>, Refusal> {
@@ -208,7 +214,8 @@ impl<'t> Tags<'t> {
     }
 
     /// The syllables that the \k, \kf and \ko outside any \t time, one behind the other from 0 on, written into the
-    /// list lent, three words to each.
+    /// list lent, three words to each. No mark speaks of them; [`KaraokeKind`](crate::KaraokeKind) says when each moves
+    /// the picture.
     ///
     /// # Errors
     ///

@@ -45,7 +45,8 @@ pub fn evaluate_at(table: &[u32], t: i32, duration: i32, state: &mut [u32; STATE
     Answer::of(ffi::evaluate_at(table, t, duration, state)).map(|_| ())
 }
 
-/// The first millisecond after t at which the state may change, if there is one.
+/// The first millisecond after t at which the state may change, if there is one. Marks do not speak of syllables: when
+/// one moves the picture stands at [`KaraokeKind`](crate::KaraokeKind).
 ///
 /// ```
 /// let fad = [1, 200, 300, 0, 0, 0, 0, 0];

@@ -306,7 +306,7 @@ fn texts_of_all_sorts_are_walked_through() {
         for part in parts.into_iter().flatten() {
             assert_eq!(&text[part.range()], part.as_str(), "{text}");
         }
-        // Up to the next mark nothing moves.
+        // Up to the next mark the state stays.
         let last = tags.next_mark(t, duration).unwrap().map_or(t + 5000, |mark| mark - 1);
         assert_eq!(format!("{:?}", tags.evaluate_at(last, duration).unwrap()), format!("{state:?}"), "{text}");
     }
