@@ -12,11 +12,11 @@ import sys
 
 os.chdir(os.path.dirname(os.path.dirname(os.path.abspath(__file__))))
 # The papers whose names in backquotes are checked, and the sources that have these names.
-NAMED = ["README.md", "docs/ARCHITECTURE.md", "docs/DECISIONS.md", "docs/TRACE.md"]
-SOURCES = ["crates/*/*/**/*.rt", "crates/*/*/**/*.antt", "host/*/*/**/*.rs", "oracle/**/*.rs", "oracle/*.py", "include/*"]
-# Files of the library that is followed (NOTICE), named by their places there.
+NAMED = ["README.md", "CONTRIBUTING.md", "docs/ARCHITECTURE.md", "docs/DECISIONS.md", "docs/TRACE.md"]
+SOURCES = ["crates/**/*.rt", "crates/**/*.antt", "host/**/*.rs", "oracle/**/*.rs", "oracle/*.py", "include/*"]
+# What is a path; and files of the library that is followed (NOTICE), named by their places there.
+FILE = r"[\w+-][\w.+-]*(/[\w.+-]+)*(/|\.(md|antt|rt|rs|sh|py|txt|toml|lock|h|c|svg|diff|edit))|\.ci/run"
 ELSEWHERE = {"src/animate.rs", "src/drawing.rs"}
-FILE = "md|antt|rt|rs|sh|py|txt|toml|lock|h|c|svg|diff|edit"
 wrong = []
 
 
@@ -38,11 +38,15 @@ def papers():
     return ["README.md", *there("CONTRIBUTING.md"), *there("docs/*.md")]
 
 
+def line_of(paper, text, m):
+    return f"{paper}:{text.count(chr(10), 0, m.start()) + 1}"
+
+
 def quoted(paper):
     """What stands in backquotes, outside of indented and fenced code, with its place."""
     text = re.sub(r"^```.*?^```|^ {4}[^\n]*", lambda m: "\n" * m[0].count("\n"), read(paper), flags=re.M | re.S)
     for m in re.finditer(r"`([^`]+)`", text):
-        yield f"{paper}:{text.count(chr(10), 0, m.start()) + 1}", " ".join(m[1].split())
+        yield line_of(paper, text, m), " ".join(m[1].split())
 
 
 @functools.cache
@@ -58,14 +62,13 @@ def declares(path, name):
 
 def in_source(crate, *path):
     """Whether crate::item or crate::module::item is there, in a proved crate or in the host's of that name."""
-    *module, item = path
-    files = [p for home in ("crates", "host") for p in there(f"{home}/{crate}/src/{'/'.join(module) or '**/*'}.r[ts]")]
-    return any(re.search(rf"\b(?:fn|struct|enum|const|type|mod) {item}\b", read(p)) for p in files)
+    file, form = "/".join(path[:-1]) or "**/*", rf"\b(?:fn|struct|enum|const|type|mod) {path[-1]}\b"
+    files = there(f"crates/{crate}/src/{file}.rt") + there(f"host/{crate}/src/{file}.rs")
+    return any(re.search(form, read(p)) for p in files)
 
 
 @functools.cache
 def tests(pattern):
-    """The #[test] functions in the files of that pattern."""
     return set(re.findall(r"#\[test\]\s*(?:#\[[^\]]*\]\s*)*fn (\w+)", "\n".join(map(read, there(pattern)))))
 
 
@@ -79,19 +82,21 @@ def fault_in(name):
     if m := re.fullmatch(r"(oracle|host):(?:(\w+)::)?(\w+)", name):
         files = {"oracle": "oracle/src", "host": "host/*/*"}[m[1]] + f"/**/{m[2] or '*'}.rs"
         return m[3] not in tests(files) and "there is no such test"
-    if m := re.fullmatch(r"([a-z]\w*)(?:::|!|/(?:proofs/)?[A-Z]).*", name):
+    if m := re.fullmatch(r"([a-z]\w*)(?:::|!|/(?:proofs/)?[A-Z]).*(?<!\.antt)(?<!\.md)", name):
         if m[1] not in crates():
             return not there(m[1]) and f"there is no crate {m[1]}"
     if re.fullmatch(r"[a-z]\w*(::\w+)+", name):
         return not in_source(*name.split("::")) and "it is not in the sources"
     if m := re.fullmatch(r"([a-z]\w*)!(\w+)", name):
         return not there(f"crates/{m[1]}/must-fail/{m[2]}.edit") and "there is no such edit"
-    if m := re.fullmatch(r"([a-z]\w*)/(proofs/)?([A-Z]\w*)(?:\.([^\s/.]+))?", name):
+    if m := re.fullmatch(r"([a-z]\w*)/(proofs/)?([A-Z]\w*)(?:\.(?!antt$|md$)([^\s/.]+))?", name):
         path = f"crates/{m[1]}/{m[2] or 'specs/'}{m[3]}.antt"
         if not there(path):
             return f"there is no {path}"
-        return m[4] and not declares(path, m[4]) and f"{path} declares no {m[4]}"
-    return re.fullmatch(r"[A-Za-z_][\w-]*", name) and name not in words() and "no source has this word"
+        found = not m[4] or declares(path, m[4]) or m[4][0].isupper() and in_source(m[1], m[4])
+        return not found and f"{path} declares no {m[4]}"
+    form = r"(?=.*[a-z])(?=.*[A-Z_-])[A-Za-z_][\w-]*"
+    return re.fullmatch(form, name) and name not in words() and "no source has this word"
 
 
 def check_names():
@@ -116,7 +121,6 @@ def lines(*patterns):
 
 def reading_order(paper):
     """The paper with the lines of the files that each row of its reading order names."""
-
     def row(m):
         folder, total = "", 0
         for path in re.findall(r"[\w/]+\.antt", m[1]):
@@ -169,10 +173,8 @@ def check_files():
     for paper in papers():
         for place, name in quoted(paper):
             path = name.split(" ")[0].removeprefix("./") if name.startswith("./") else name
-            form = rf"[\w+-][\w.+-]*(/[\w.+-]+)*(/|\.({FILE}))|\.ci/run"
-            if not re.fullmatch(form, path) or path in ELSEWHERE or "target" in path.split("/"):
-                continue
-            if not re.search(re.escape("/" + path).replace("NAME", r"[^/\n]+") + "$", paths, re.M):
+            named = re.fullmatch(FILE, path) and path not in ELSEWHERE and "target" not in path.split("/")
+            if named and not re.search(re.escape("/" + path).replace("NAME", r"[^/\n]+") + "$", paths, re.M):
                 tell(place, f"`{name}`: there is no such file")
 
 
@@ -183,9 +185,9 @@ def check_citations():
     for title in sorted({t for t in titles if titles.count(t) > 1}):
         tell("docs/DECISIONS.md", f'two decisions have the title "{title}"')
     for paper in papers():
-        for cited, title in re.findall(r"\b(DECISIONS|MEASURED)(?:\.md)?, ([A-Z][^.;:()]*)", " ".join(read(paper).split())):
-            if not any(title.startswith(t) for t in heads[cited]):
-                tell(paper, f'{cited} has no "{title}"')
+        for m in re.finditer(r"\b(DECISIONS|MEASURED)(?:\.md)?,\s+([A-Z][^.;:()]*)", read(paper)):
+            if not any(" ".join(m[2].split()).startswith(t) for t in heads[m[1]]):
+                tell(line_of(paper, read(paper), m), f"there is no {' '.join(m[0].split())}")
 
 
 if sys.argv[1:] not in ([], ["--write"]):
