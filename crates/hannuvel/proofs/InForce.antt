@@ -1,6 +1,6 @@
 -- Of what `hannuvel_style_in_force` returns, the functions of include/hannuvel.h give back the ground, the extra and the value, and the value has the
 -- part's offset and length.
-use mathlib.Core.Path.{_≡_, refl}
+use mathlib.Core.Path.{_≡_, refl, sym, ap, _∙_}
 use mathlib.Core.Bool.{Bool}
 use mathlib.Core.List.{List}
 use Prim.Native.Nat.{ℕ, _+_, _-_, _*_, _/_, _%_, _^_, _≤_, _<_}
@@ -11,17 +11,17 @@ use lib.IntN.{ℤ}
 use Rattle.scan.specs.Scan.{pick}
 use Rattle.scan.proofs.Laws.{picked}
 use Rattle.refusal.specs.Refusal.{numberOf, placeOf, mostBytes}
+use Rattle.refusal.specs.Answer.{firstGround}
+use Rattle.refusal.specs.declared.Refusal.{Refusal}
 use Rattle.refusal.specs.declared.Checked.{Checked}
 use Rattle.refusal.specs.declared.Checked.the-variants.{Good, Bad}
 use Rattle.tag.specs.Decode.{tagsOf}
+use Rattle.tag.proofs.Formed.{bad-good}
 use Rattle.table.specs.Ground.{callGround}
 use Rattle.state.specs.declared.RenderState.{RenderState}
 use Rattle.state.specs.Apply.{evaluateAt}
 use Rattle.state.specs.State.{resetTo}
-use Rattle.evaluate.specs.declared.Evaluated.{Evaluated}
 use Rattle.evaluate.specs.Evaluate.{evaluatedOr, evaluated}
-use Rattle.reset.specs.declared.ResetAt.{ResetAt}
-use Rattle.reset.specs.Reset.{resetIn}
 use Rattle.style.specs.Style.{textsGround, named, refused, unless}
 use Rattle.style.specs.declared.Place.{Place}
 use Rattle.style.proofs.Places.{Short, texts-short, Fits, named-fits}
@@ -30,14 +30,28 @@ use Rattle.hannuvel.specs.InForce.{styleOf, styleAt, StyleCall}
 use Rattle.hannuvel.specs.Inner.{packed, wordOf, styleWord}
 use Rattle.hannuvel.proofs.Unpacked.{unpacked, plain, Low, call-low}
 
--- the style needs no more of the state than what \r has left
-abbrev pub styleBy : ResetAt → List ℕ → List ℕ → Place
-styleBy (ResetAt.Reset s) block own = named s block own
-styleBy (ResetAt.Refused r) block own = refused r
+-- the first ground of the texts and of the call, or the name that \r has left
+styled-bad : (c d : Checked) (st : RenderState) (block own : List ℕ) {g : Refusal} → firstGround c d ≡ Bad g → unless c (styleOf (evaluatedOr d st) block own) ≡ refused g
+styled-bad Good Good st block own e = absurd (bad-good (sym e))
+styled-bad Good (Bad r) st block own e = cc
+styled-bad (Bad r) d st block own e = cc
 
-pub style-by : (e : Evaluated) (block own : List ℕ) → styleOf e block own ≡ styleBy (resetIn e) block own
-style-by (Evaluated.State st) block own = refl
-style-by (Evaluated.Refused r) block own = refl
+styled-good : (c d : Checked) (st : RenderState) (block own : List ℕ) → firstGround c d ≡ Good → unless c (styleOf (evaluatedOr d st) block own) ≡ named (resetTo st) block own
+styled-good Good Good st block own e = refl
+styled-good Good (Bad r) st block own e = absurd (bad-good e)
+styled-good (Bad r) d st block own e = absurd (bad-good e)
+
+module _ (ws : List ℕ) (t dur : ℤ) (block own : List ℕ) {c d f : Checked} (x : c ≡ textsGround block own) (y : d ≡ callGround ws t dur) (z : f ≡ firstGround c d) where
+  found : firstGround (textsGround block own) (callGround ws t dur) ≡ f
+  found = sym (z ∙ ap (λ (g : Checked). firstGround g d) x ∙ ap (firstGround (textsGround block own)) y)
+
+  pub at-bad : {g : Refusal} → f ≡ Bad g → styleAt ws t dur block own ≡ refused g
+  unfolding evaluated
+  at-bad e = styled-bad (textsGround block own) (callGround ws t dur) (evaluateAt t dur (tagsOf ws)) block own (found ∙ e)
+
+  pub at-good : f ≡ Good → styleAt ws t dur block own ≡ named (resetTo (evaluateAt t dur (tagsOf ws))) block own
+  unfolding evaluated
+  at-good e = styled-good (textsGround block own) (callGround ws t dur) (evaluateAt t dur (tagsOf ws)) block own (found ∙ e)
 
 -- an offset and a length in one word
 two-small : (a b : ℕ) → a < 2 ^ 16 → b < 2 ^ 16 → a * 2 ^ 16 + b < 2 ^ 32
