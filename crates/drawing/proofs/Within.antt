@@ -12,7 +12,7 @@ use lib.Ieee.Order.{round-mono}
 use Rattle.decimal.proofs.Law.{neg-round}
 use Rattle.float.specs.Float.{inReach}
 use Rattle.float.proofs.Reach.{unsigned, round-up, or-le, size-in-reach}
-use Rattle.drawing.specs.Drawing.{f6, weighed}
+use Rattle.pen.specs.Drawing.{f6, weighed}
 
 -- x is finite, of magnitude at most n
 abbrev pub Within : ℕ → Float → Type 0
