@@ -11,14 +11,15 @@ use Rattle.refusal.specs.declared.Refusal.{Refusal}
 use Rattle.refusal.specs.declared.Refusal.the-variants.{ScaleTooLarge, NoRoom}
 use Rattle.refusal.specs.declared.Checked.the-variants.{Good, Bad}
 use Rattle.tokens.specs.Tokens.{from, tokensGround}
-use Rattle.drawing.specs.declared.machine.Traced.{Traced}
+use Rattle.machine.specs.declared.Traced.{Traced}
 use Rattle.refusal.specs.declared.Answer.the-variants.{Written, Refused}
-use Rattle.drawing.specs.Drawing.{scaleOf}
-use Rattle.drawing.specs.Answer.{unless, ground, drawing, answer, after, Answered}
-use Rattle.drawing.specs.Inner.{Traces}
+use Rattle.pen.specs.Drawing.{scaleOf}
+use Rattle.machine.specs.Grounds.{unless}
+use Rattle.drawing.specs.Answer.{ground, drawing, answer, after, Answered}
+use Rattle.machine.specs.Inner.{Traces}
 use Rattle.tokens.specs.Inner.{Straight}
 use Rattle.drawing.proofs.Weighing.{few-by-weight}
-use Rattle.drawing.proofs.Emitting.{emits-all}
+use Rattle.path.proofs.Emitting.{emits-all}
 
 module _ (s t : List ℕ) (x : ℕ) where
   pub answered-text : {r : Refusal} → textGround s ≡ Bad r → Answered s x t (Refused r) t

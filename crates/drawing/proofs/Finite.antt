@@ -15,45 +15,24 @@ use Rattle.scan.proofs.Laws.{picked, le-or-lt}
 use Rattle.float.specs.Float.{zero as f0, one as f1}
 use Rattle.numeral.specs.Numeral.{F32, tooLong, number, f32At}
 use Rattle.numeral.proofs.Reach.{number-in-reach}
-use Rattle.drawing.specs.declared.path.PathCommand.{PathCommand}
+use Rattle.path.specs.declared.PathCommand.{PathCommand}
 use Rattle.rows.specs.Rows.{bits}
 use Rattle.tokens.specs.declared.Token.{Token}
 use Rattle.tokens.specs.declared.Token.the-variants.{Letter, Number, Refused, Other}
-use Rattle.drawing.specs.declared.points.Point.{Point}
-use Rattle.drawing.specs.declared.pen.Ctrl.{Ctrl}
-use Rattle.drawing.specs.declared.pen.Ctrl.the-variants.{One, Two, Three, Span}
-use Rattle.drawing.specs.declared.pen.Mode.{Mode}
-use Rattle.drawing.specs.declared.pen.Mode.the-variants.{Idle, Lines, Cubics, Spline}
-use Rattle.drawing.specs.declared.pen.Pen.{Pen}
-use Rattle.drawing.specs.declared.machine.Command.{Command}
-use Rattle.drawing.specs.declared.machine.Command.the-variants.{Move, MoveOpen, Line, Cubic, Basis, Close, Unknown}
+use Rattle.path.specs.declared.Point.{Point}
+use Rattle.pen.specs.declared.Ctrl.{Ctrl}
+use Rattle.pen.specs.declared.Ctrl.the-variants.{One, Two, Three, Span}
+use Rattle.pen.specs.declared.Mode.{Mode}
+use Rattle.pen.specs.declared.Mode.the-variants.{Idle, Lines, Cubics, Spline}
+use Rattle.pen.specs.declared.Pen.{Pen}
+use Rattle.pen.specs.declared.Command.{Command}
+use Rattle.pen.specs.declared.Command.the-variants.{Move, MoveOpen, Line, Cubic, Basis, Close, Unknown}
 use Rattle.tokens.specs.Tokens.{isLetter, special, oneLetter, tokenOf, numeralToken, tokenEnd, tokens, from, untilLetter}
-use Rattle.drawing.specs.Drawing.{f2, f4, scaleOf, scaled, weighed, bez, spanOf, moveTo, lineTo, cubicTo, closed, Read1, none1, point, Read3, none3, points, behindNumber, readPoint, behindPoint, readThree, Turn, turned, Gives, splinePoint, byMode, settled, settledBy, pointedBy, curveBy, bareBy, continues, movesBy, command, commandOf, letterTurn, turnOf, walk, start}
+use Rattle.pen.specs.Drawing.{f2, f4, scaleOf, scaled, weighed, bez, spanOf, Read1, none1, point, Read3, none3, points, behindNumber, readPoint, behindPoint, readThree, Turn, turned, Gives, splinePoint, byMode, settled, settledBy, pointedBy, curveBy, bareBy, continues, movesBy, command, commandOf, letterTurn, turnOf, walk, start}
+use Rattle.path.specs.Path.{moveTo, lineTo, cubicTo, closed}
 use Rattle.drawing.specs.Answer.{drawing}
-use Rattle.drawing.proofs.Within.{Within, most, e0, e1, e2, e4, e5, e6, mul-within, weighed-within, weighed-fits, reach-within}
-
--- ---- what is shown
-
--- w is the bits of a finite f32
-pub record FiniteWord (w : ℕ) : Type 0 where
-  pub value : Float
-  pub finite : Within most value
-  pub fits : T (fits binary32 value)
-  pub is : w ≡ bits value
-
--- all words behind a command's kind are; where there is no coordinate, plus zero's
-pub record FiniteCommand (r : PathCommand) : Type 0 where
-  pub w1 : FiniteWord (r .w1)
-  pub w2 : FiniteWord (r .w2)
-  pub w3 : FiniteWord (r .w3)
-  pub w4 : FiniteWord (r .w4)
-  pub w5 : FiniteWord (r .w5)
-  pub w6 : FiniteWord (r .w6)
-  pub w7 : FiniteWord (r .w7)
-
-pub data FinitePath : List PathCommand → Type 0 where
-  end : FinitePath []
-  and : {r : PathCommand} {l : List PathCommand} → FiniteCommand r → FinitePath l → FinitePath (r ∷ l)
+use Rattle.drawing.specs.Finite.{Within, most, FiniteWord, FiniteCommand, FinitePath, end, and}
+use Rattle.drawing.proofs.Within.{e0, e1, e2, e4, e5, e6, mul-within, weighed-within, weighed-fits, reach-within}
 
 -- ---- floats and points
 

@@ -14,9 +14,10 @@ use Rattle.refusal.specs.declared.Checked.the-variants.{Good, Bad}
 use Rattle.refusal.proofs.Laws.{Within, room-within, text-within, Few, room-few, unless-few}
 use Rattle.tokens.specs.Tokens.{from, tokensGround}
 use Rattle.tokens.proofs.Places.{few-tokens, place-inside}
-use Rattle.drawing.specs.Drawing.{scaleOf}
-use Rattle.drawing.specs.Answer.{mostExponent, exponentGround, unless, ground, drawing, answer}
-use Rattle.drawing.proofs.Counting.{few-commands}
+use Rattle.pen.specs.Drawing.{scaleOf}
+use Rattle.drawing.specs.Answer.{mostExponent, exponentGround, ground, drawing, answer}
+use Rattle.machine.specs.Grounds.{unless}
+use Rattle.pen.proofs.Counting.{few-commands}
 
 -- one check behind another
 unless-both : (c d : Checked) (a : Answer) → unlessBad (unless c d) a ≡ unlessBad c (unlessBad d a)

@@ -15,16 +15,16 @@ use Rattle.tokens.specs.declared.Token.{Token}
 use Rattle.tokens.specs.declared.Token.the-variants.{Letter, Number, Refused, Other}
 use Rattle.tokens.specs.Tokens.{untilLetter}
 use Rattle.tokens.specs.Inner.{rateOf, letterWeight, weight}
-use Rattle.drawing.specs.declared.points.Point.{Point}
-use Rattle.drawing.specs.declared.pen.Ctrl.{Ctrl}
-use Rattle.drawing.specs.declared.pen.Ctrl.the-variants.{One, Two, Three, Span}
-use Rattle.drawing.specs.declared.pen.Mode.{Mode}
-use Rattle.drawing.specs.declared.pen.Mode.the-variants.{Idle, Lines, Cubics, Spline}
-use Rattle.drawing.specs.declared.pen.Pen.{Pen}
-use Rattle.drawing.specs.declared.machine.Command.{Command}
-use Rattle.drawing.specs.declared.machine.Command.the-variants.{Move, MoveOpen, Line, Cubic, Basis, Close, Unknown}
-use Rattle.drawing.specs.Drawing.{Read1, none1, point, Read3, none3, points, readPoint, readThree, Turn, turned, splinePoint, byMode, settled, settledBy, pointedBy, curveBy, bareBy, continues, closesFirst, movesBy, command, commandOf, letterTurn, turnOf, walk, start, draw}
-use Rattle.drawing.proofs.Counting.{Two1, Two3, read-less, three-less}
+use Rattle.path.specs.declared.Point.{Point}
+use Rattle.pen.specs.declared.Ctrl.{Ctrl}
+use Rattle.pen.specs.declared.Ctrl.the-variants.{One, Two, Three, Span}
+use Rattle.pen.specs.declared.Mode.{Mode}
+use Rattle.pen.specs.declared.Mode.the-variants.{Idle, Lines, Cubics, Spline}
+use Rattle.pen.specs.declared.Pen.{Pen}
+use Rattle.pen.specs.declared.Command.{Command}
+use Rattle.pen.specs.declared.Command.the-variants.{Move, MoveOpen, Line, Cubic, Basis, Close, Unknown}
+use Rattle.pen.specs.Drawing.{Read1, none1, point, Read3, none3, points, readPoint, readThree, Turn, turned, splinePoint, byMode, settled, settledBy, pointedBy, curveBy, bareBy, continues, closesFirst, movesBy, command, commandOf, letterTurn, turnOf, walk, start, draw}
+use Rattle.pen.proofs.Counting.{Two1, Two3, read-less, three-less}
 
 numbered : (r : ℕ) (x : Float) (ts : List Token) → weight r ts + r ≤ weight r (Number x ∷ ts)
 unfolding weight

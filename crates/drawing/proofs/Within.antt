@@ -12,13 +12,8 @@ use lib.Ieee.Order.{round-mono}
 use Rattle.decimal.proofs.Law.{neg-round}
 use Rattle.float.specs.Float.{inReach}
 use Rattle.float.proofs.Reach.{unsigned, round-up, or-le, size-in-reach}
-use Rattle.drawing.specs.Drawing.{f6, weighed}
-
--- x is finite, of magnitude at most n
-abbrev pub Within : ℕ → Float → Type 0
-Within n nan = ⊥
-Within n (inf s) = ⊥
-Within n (fin s m e) = m * up e ≤ n * down e
+use Rattle.pen.specs.Drawing.{f6, weighed}
+use Rattle.drawing.specs.Finite.{Within, most}
 
 -- n is an f32
 pub record Exact (n : ℕ) : Type 0 where
@@ -101,9 +96,6 @@ sixth-within n e (inf s) a = absurd a
 sixth-within n e (fin s m p) a = round-within e (unlike s false) (m * up p * 1) (6 * down p) (mul-pos (lit< tt) (down-pos p)) (sixth n (m * up p) (down p) a)
 
 -- ---- a drawing's numbers
-
-abbrev pub most : ℕ
-most = 1000000000
 
 pub e0 : Exact 0
 unfolding round

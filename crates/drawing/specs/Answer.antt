@@ -7,14 +7,15 @@ use lib.ListN.{length}
 use Rattle.scan.specs.Scan.{pick}
 use Rattle.refusal.specs.Refusal.{textGround}
 use Rattle.refusal.specs.declared.Refusal.the-variants.{ScaleTooLarge}
-use Rattle.drawing.specs.declared.path.PathCommand.{PathCommand}
-use Rattle.drawing.specs.Path.{commandWidth, laidPath}
+use Rattle.path.specs.declared.PathCommand.{PathCommand}
+use Rattle.path.specs.Path.{commandWidth, laidPath}
 use Rattle.refusal.specs.declared.Checked.{Checked}
 use Rattle.refusal.specs.declared.Checked.the-variants.{Good, Bad}
 use Rattle.refusal.specs.declared.Answer.{Answer}
 use Rattle.refusal.specs.Answer.{roomFor, unlessBad, tableAfter}
 use Rattle.tokens.specs.Tokens.{from, tokensGround}
-use Rattle.drawing.specs.Drawing.{scaleOf, draw}
+use Rattle.pen.specs.Drawing.{scaleOf, draw}
+use Rattle.machine.specs.Grounds.{unless}
 
 -- 01, ground 7: "a drawing's scale exponent is above 32"
 abbrev pub mostExponent : ℕ
@@ -22,11 +23,6 @@ mostExponent = 32
 
 abbrev pub exponentGround : ℕ → Checked
 exponentGround x = pick (ltb mostExponent x) (Bad ScaleTooLarge) Good
-
--- the first of two grounds
-abbrev pub unless : Checked → Checked → Checked
-unless Good c = c
-unless (Bad r) c = Bad r
 
 unfoldable pub ground : List ℕ → ℕ → Checked
 ground s exponent = unless (textGround s) (unless (tokensGround (from s 0)) (exponentGround exponent))

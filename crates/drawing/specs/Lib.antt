@@ -1,5 +1,3 @@
-pub mod Path
-pub mod Drawing
 pub mod Answer
-pub mod Inner
+pub mod Finite
 pub mod Sheet

@@ -7,13 +7,13 @@ use lib.Ieee.{round, toBits, ofInt, add, mul, div, sum}
 use Prim.Native.String.{String}
 use Rattle.scan.specs.Scan.{bytes, span, skip, skipBack, blankAt, blankBefore}
 use Rattle.numeral.specs.Numeral.{value, splitAt, exponentAt, floatOf, f32Of}
-use Rattle.drawing.specs.declared.path.PathCommand.{PathCommand}
-use Rattle.drawing.specs.Path.{pathCommand}
+use Rattle.path.specs.declared.PathCommand.{PathCommand}
+use Rattle.path.specs.Path.{pathCommand}
 use Rattle.refusal.specs.declared.Refusal.the-variants.{TextTooLong, NotAscii, NumeralTooLong, ScaleTooLarge, NoRoom}
 use Rattle.refusal.specs.declared.Answer.{Answer}
 use Rattle.refusal.specs.declared.Answer.the-variants.{Written, Refused}
 use Rattle.tokens.specs.Tokens.{spells, special, tokenOf, wordEnd, tokens, untilLetter, tokensGround}
-use Rattle.drawing.specs.Drawing.{scaleOf, scaled, weighed, commandOf, letterTurn, walk}
+use Rattle.pen.specs.Drawing.{scaleOf, scaled, weighed, commandOf, letterTurn, walk}
 use Rattle.drawing.specs.Answer.{ground, drawing, answer}
 use Rattle.refusal.specs.Refusal.{textGround}
 

@@ -5,14 +5,9 @@ ghost use Rattle.refusal.specs.Refusal.{textGround};
 ghost use Rattle.refusal.specs.declared.Checked.the-variants.{Good, Bad};
 ghost use Rattle.refusal.specs.declared.Refusal.the-variants.{ScaleTooLarge};
 ghost use Rattle.tokens.specs.Tokens.{from as tokensFrom, tokensGround};
-ghost use Rattle.drawing.specs.Drawing.{scaleOf};
-ghost use Rattle.drawing.specs.Answer.{unless, Answered};
-
-mod machine;
-mod path;
-mod pen;
-mod points;
-
+ghost use Rattle.pen.specs.Drawing.{scaleOf};
+ghost use Rattle.machine.specs.Grounds.{unless};
+ghost use Rattle.drawing.specs.Answer.{Answered};
 use machine::draw;
 use refusal::Answer;
 use refusal::Checked;

@@ -29,9 +29,9 @@ use Rattle.tag.specs.declared.KaraokeKind.the-variants.{Fill, Sweep}
 use Rattle.karaoke.specs.declared.KaraokeSpan.{KaraokeSpan}
 use Rattle.karaoke.specs.Karaoke.{ms, karaokeSpans}
 use Rattle.tokens.specs.Tokens.{spells, special, tokenOf, wordEnd, tokens, untilLetter}
-use Rattle.drawing.specs.declared.path.PathCommand.{PathCommand}
-use Rattle.drawing.specs.Path.{pathCommand}
-use Rattle.drawing.specs.Drawing.{scaleOf, scaled, weighed, commandOf, letterTurn, walk}
+use Rattle.path.specs.declared.PathCommand.{PathCommand}
+use Rattle.path.specs.Path.{pathCommand}
+use Rattle.pen.specs.Drawing.{scaleOf, scaled, weighed, commandOf, letterTurn, walk}
 use Rattle.drawing.specs.Answer.{drawing}
 
 -- ---- the paper's words

@@ -5,7 +5,7 @@ use Rattle.drawing.proofs.draw_good.Statement.{statement}
 use Rattle.drawing.proofs.draw_good.Tie as tie
 use Rattle.drawing.proofs.draw_good.Reads as reads
 use Rattle.drawing.proofs.draw_good.Lts as lts
-use Rattle.drawing.proofs.machine.draw.Reads as draw-reads
+use Rattle.machine.proofs.draw.Reads as draw-reads
 use Rattle.drawing.proofs.scale_of.Reads as scale-of-reads
 use Rattle.scan.proofs.least.Reads as least-reads
 use Rattle.tokens.proofs.straight.Reads as straight-reads

@@ -6,7 +6,7 @@ use lib.Pow.{pow-lt}
 use lib.IntN.{pos}
 use lib.Ieee.{Float, binary32, div, ofInt, ofBits}
 use Rattle.float.specs.Float.{one as f1}
-use Rattle.drawing.specs.Drawing.{scaleOf}
+use Rattle.pen.specs.Drawing.{scaleOf}
 use borrow.Author.Tests.{eq-eqb, ne-eqb}
 use borrow.Author.Needs.{needs}
 use Rattle.drawing.proofs.scale_of.Statement.{statement}
