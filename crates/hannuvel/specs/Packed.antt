@@ -1,7 +1,7 @@
 -- Answers as one number. Bits 48 to 63: 01's number of the ground, 0 for an answer; bits 32 to 47: an extra; bits 0 to 31: the value, or the ground's place or count.
 use mathlib.Core.Path.{_≡_}
 use mathlib.Core.List.{List}
-use Prim.Native.Nat.{ℕ, _/_, _%_, _^_}
+use Prim.Native.Nat.{ℕ, _/_, _%_, _^_, _≤_}
 use Rattle.refusal.specs.declared.Answer.{Answer}
 use Rattle.refusal.specs.declared.Checked.{Checked}
 use Rattle.refusal.specs.Answer.{numberIn, placeIn, beside, groundOf, answerValue}
@@ -9,6 +9,8 @@ use Rattle.tag.specs.Table.{placesOf}
 use Rattle.read.specs.declared.Span.{Span}
 use Rattle.read.specs.Reading.{answer, after}
 use Rattle.drawing.specs.Answer as Drawing
+use Rattle.drawing.specs.Answer.{mostExponent}
+use Rattle.drawing.specs.Finite.{FinitePath}
 use Rattle.clips.specs.Clip.{clipOf}
 
 -- `hannuvel_ground`, `hannuvel_extra` and `hannuvel_value` of include/hannuvel.h: answer >> 48, (answer >> 32) & 0xFFFF, answer & 0xFFFFFFFF
@@ -40,10 +42,12 @@ pub record ReadingCall (s : List ℕ) (x : Span) (t : List ℕ) (r : ℕ) (u : L
   pub answered : SaysAnswer r (answer s x (placesOf t))
   pub table : u ≡ after s x t
 
--- what the drawing call says: the number r, and the path table t before and u after
+-- What the drawing call says: the number r, and the path table t before and u after. Up to the exponent 32 every coordinate of the path is a finite
+-- f32.
 pub record DrawingCall (s : List ℕ) (exponent : ℕ) (t : List ℕ) (r : ℕ) (u : List ℕ) : Type 0 where
   pub answered : SaysAnswer r (Drawing.answer s exponent (Drawing.placesOf t))
   pub path : u ≡ Drawing.after s exponent t
+  pub finite : exponent ≤ mostExponent → FinitePath (Drawing.drawing s exponent)
 
 -- what the call on a clip argument says: the offset at which the rest begins, and the scale
 abbrev pub ClipCall : List ℕ → ℕ → Type 0
