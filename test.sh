@@ -1,5 +1,5 @@
 #!/usr/bin/env bash
-# The tests: rt ci over every crate of crates.txt, then the papers, the hosts in C and Rust and the comparison with the Rust.
+# The tests: the papers, rt ci over every crate of crates.txt, then the hosts in C and Rust and the comparison with the Rust.
 # Any failure ends it with a status other than 0. Its last line is rt ci's own, 'N passed, 0 failed',
 # held back until everything else has passed.
 set -euo pipefail
@@ -21,6 +21,10 @@ for tool in rt cargo rustc python3 nm gcc script; do
     command -v "$tool" >/dev/null || fail "$tool is not on PATH"
 done
 
+# ---- the papers, held to the sources
+docs/papers.py || fail "docs/papers.py ended with status $?"
+docs/citations.py || fail "docs/citations.py ended with status $?"
+
 # ---- rt ci. It removes target/, so its output is kept elsewhere until it has ended.
 kept=$(mktemp)
 trap 'rm -f "$kept"' EXIT
@@ -36,11 +40,6 @@ proving=$((SECONDS - began))
 [ "${ended[0]}" -eq 0 ] || fail "rt ci ended with status ${ended[0]}, its last line being: $verdict"
 [ "${ended[1]}${ended[2]}" = 00 ] || fail "rt ci's output could not be kept or shown"
 [[ $verdict =~ ^[1-9][0-9]*\ passed,\ 0\ failed$ ]] || fail "rt ci's last line is: $verdict"
-
-# ---- the papers
-say "the papers"
-docs/papers.py || fail "docs/papers.py ended with status $?"
-[ ! -e docs/citations.py ] || docs/citations.py || fail "docs/citations.py ended with status $?"
 
 # ---- the Rust side, over what rt ci has proved
 began=$SECONDS
