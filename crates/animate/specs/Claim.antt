@@ -1,10 +1,9 @@
--- Demand 3 as one claim: "Two controllers with tables of any sizes and any old contents agree". It speaks of one function, `two_controllers`,
--- that makes the calls of the C interface as hosts do: it reads a block into two lent tables by the same one of the two reading calls, and
--- asks on both, at the instants t and u of a line that lasts dur milliseconds, for the 92 words of the state and for the next mark. The numbers
--- that the calls gave are r; what the controllers lent was a and b before, and is a′ and b′ afterwards. All that the answers are held to
--- comes from the text, the duration and the instants. The sentences of demand 3 stand beside the fields, in their order; 01 says under "What
--- demand 3 speaks of" what their words mean.
-use Rattle.refusal.specs.Answer.{firstGround}
+-- Demand 3 as one claim: "Two controllers with tables of any sizes and any old contents agree". It speaks of one function,
+-- `two_controllers`, that makes the calls of the C interface as hosts do: it reads a block into two lent tables by the same one of
+-- the two reading calls, and asks on both, at the instants t and u of a line that lasts dur milliseconds, for the 92 words of the
+-- state and for the next mark. The numbers that the calls gave are r; what the controllers lent was a and b before, and is a′ and b′
+-- afterwards. All that the answers are held to comes from the text, the duration and the instants. The sentences of demand 3 stand
+-- beside the fields, in their order; 01 says under "What demand 3 speaks of" what their words mean.
 use mathlib.Core.Path.{_≡_}
 use mathlib.Core.List.{List}
 use mathlib.Core.Bool.{Bool, true, false}

@@ -1,4 +1,4 @@
-// 01, What demand 3 speaks of: two controllers read one block into tables of their own, ask for states and for marks, by the calls of the C interface.
+// 01, What demand 3 speaks of: two controllers read one block into tables of their own and ask for states and marks, by the C calls.
 ghost use mathlib.Core.Path.{_≡_};
 ghost use lib.ListN.{take};
 ghost use Rattle.hannuvel.specs.Packed.{ReadingCall};
@@ -89,8 +89,8 @@ fn controller(
     }
 }
 
-// Demand 3, whole: two controllers, tables a and b of any sizes and any old contents, one block, any duration, any two instants. The words of the
-// states at t and at u go to a1 and a2, b1 and b2.
+// Demand 3, whole: two controllers, tables a and b of any sizes and any old contents, one block, any duration, any two
+// instants. The words of the states at t and at u go to a1 and a2, b1 and b2.
 pub fn two_controllers(
     text: &[u8],
     raw: bool,
