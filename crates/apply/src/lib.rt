@@ -1,4 +1,4 @@
-// What the tags but \t do, where it is more than to set a field. Words are handed on one by one: a record goes through memory.
+// What the tags but \t do, where it is more than to set a field.
 ghost use mathlib.Core.Path.{_≡_};
 ghost use Rattle.float.specs.Float.{toRadians, maxZero};
 ghost use Rattle.tag.specs.Decode.{f};
@@ -22,6 +22,7 @@ use values::this_u8;
 // ---- what every state has
 
 // By how much \fade multiplies.
+// For the compiler (MEASURED, Shapes for the compiler): each word of a record is handed over by itself.
 pub fn fade_by(w1: u32, w2: u32, w3: u32, w4: u32, w5: u32, w6: u32, w7: u32, t: i32) -> f32
     ensures { λ q. ⌜ q ≡ fadeMul w1 w2 w3 w4 w5 w6 w7 t ⌝ }
 {
@@ -57,6 +58,7 @@ pub fn above_zero(w: u32) -> f32
 // ---- places
 
 // The place that \move has come to.
+// For the compiler (MEASURED, Shapes for the compiler): each word of a record is handed over by itself.
 pub fn moved(w1: u32, w2: u32, w3: u32, w4: u32, k: f32) -> MaybePair
     ensures { λ q. ⌜ q .is ≡ movedAt w1 w2 w3 w4 k ⌝ }
 {

@@ -22,6 +22,7 @@ fn clip_parts(text: &[u8]) -> Clip
     ensures { λ r. ⌜ ClipIn (now (text .entry)) (clipParts (now (text .entry))) r ⌝ }
 {
     let a = scan::trim_start(text, 0, text.len());
+    // For the compiler (MEASURED, Shapes for the compiler): a short way.
     // what does not begin with a digit has no scale
     if scan::past(text, scan::Class::Digit(10), a, text.len()) == a {
         return Clip {

@@ -21,7 +21,8 @@ fn good(c: Checked) -> bool
     }
 }
 
-// All records, from `identity` on. The state comes back to where it was given from: a second one would take its room on the stack.
+// All records, from `identity` on.
+// For the compiler (MEASURED, Shapes for the compiler): the times are lent.
 fn apply_all(
     table: &[u32],
     t: &i32,
@@ -32,9 +33,11 @@ fn apply_all(
 ) -> RenderState
     ensures { λ r. ⌜ AppliedAll (now (t .entry)) (now (dur .entry)) (now (table .entry)) write (now (out .entry)) r (now (fault .exit)) (now (out .exit)) ⌝ }
 {
+    // For the compiler (MEASURED, Shapes for the compiler): the slice is handed on by a copy.
     let words = table;
     let end = scan::least(words.len() / 8, 1024);
     *fault = 0;
+    // For the compiler (MEASURED, Shapes for the compiler): the state comes back to where it was given from, in one local.
     let mut st = state::identity();
     st = evaluators::apply_tags(words, 0, end, 8, st, t, dur, write, fault, out);
     st

@@ -24,6 +24,7 @@ use apply::values::with_y;
 use state::RenderState;
 
 // What the n records inside the T at the index `at` make of the state a.
+// For the compiler (MEASURED, Shapes for the compiler): the times are lent.
 fn apply_t(
     table: &[u32],
     at: usize,
@@ -38,13 +39,13 @@ fn apply_t(
     requires { ⌜ (0 < deep) × Inside (now table) (at + 1) n × (now fault ≡ 0) ⌝ }
     ensures { λ r. ⌜ Applied (now (t .entry)) (now (dur .entry)) (now (table .entry)) (at + 1) n (deep - 1) a false (now (out .entry)) r (now (fault .exit)) (now (out .exit)) ⌝ }
 {
-    let words = table;
-    apply_tags(words, at + 1, n, deep - 1, a, t, dur, false, fault, out)
+    apply_tags(table, at + 1, n, deep - 1, a, t, dur, false, fault, out)
 }
 
 // The tags of the `count` records from `first` on, one after the other, with `deep` more levels of T allowed. A record is checked in the arm of
 // its kind and then applied, one field of the state in place; the first at fault ends it, and `fault` then holds its index and 1, which is 0
-// before. Behind the last record the words of the state are written from here, if they are asked for: a state that is handed on is copied.
+// before. Behind the last record the words of the state are written, if they are asked for.
+// For the compiler (MEASURED, Shapes for the compiler): the times are lent.
 pub fn apply_tags(
     table: &[u32],
     first: usize,
@@ -66,6 +67,7 @@ pub fn apply_tags(
     while at < end {
         let r = table::record_at(table, at);
         let kind = r.kind;
+        // For the compiler (MEASURED, Shapes for the compiler): an arm asks the test of its kind by name, and stores a field by a local of its group.
         match kind {
             1 => {
                 if table::numbers_fit(r, 2147483647, 2147483647) {
@@ -497,11 +499,11 @@ pub fn apply_tags(
                     break;
                 }
                 let k = mix::factor(r.w1, r.w2, r.w3, r.w4, *t, *dur);
+                // For the compiler (MEASURED, Shapes for the compiler): `mix::mix_state` is called in two places, so that it stays a call.
                 if n == 0 {
                     post = mix::mix_state(post, post, k);
                 } else {
-                    let words = table;
-                    let b = apply_t(words, at, n, deep, post, t, dur, fault, out);
+                    let b = apply_t(table, at, n, deep, post, t, dur, fault, out);
                     if *fault > 0 {
                         return post;
                     }
@@ -520,6 +522,7 @@ pub fn apply_tags(
         return post;
     }
     if write {
+        // For the compiler (MEASURED, Shapes for the compiler): the words are written in the function of the loop, where the state lies.
         words::clear(out);
         words::put_from_0(out, post);
         words::put_from_18(out, post);

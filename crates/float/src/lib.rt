@@ -179,7 +179,8 @@ pub fn round_away(x: f32) -> i32
     }
 }
 
-// x cut down to a whole number, for at most 24 binary digits before the point: `scaled` without its way up, as \fade takes this one.
+// x cut down to a whole number, for at most 24 binary digits before the point: `scaled` without its way up.
+// For the compiler (MEASURED, Shapes for the compiler): a byte is cut by one shift.
 fn whole(x: f32) -> u32
     requires { ⌜ T (positive x) × (num x < 2 ^ 24 * den x) ⌝ }
     ensures { λ r. ⌜ r ≡ num x / den x ⌝ }

@@ -137,14 +137,15 @@ fn next_span(table: &[u32], w: Walk) -> Walk
 
 // ---- ground 5, and how many spans there are
 
-// Whether a record that is neither a karaoke record nor a T is in range, with the arms of `table::in_range`. That one stands in the loop of
-// `table::fault`: asked by a second loop it would be a call with a record in memory for both, and five times as slow.
+// Whether a record that is neither a karaoke record nor a T is in range.
+// For the compiler (MEASURED, Shapes for the compiler): the arms of `table::in_range` again, as one that two loops ask is put into neither.
 fn fits(r: Record) -> bool
     requires { ⌜ Plain (r .kind) ⌝ }
     ensures { λ v. ⌜ v ≡ inRange r ⌝ }
 {
     let kind = r.kind;
     match kind {
+        // For the compiler (MEASURED, Shapes for the compiler): kinds that follow one another stand in two arms, so that each is one jump away.
         5 | 7 | 10 | 13 | 16 | 18 | 20 | 23 | 35 => table::float_fits(r),
         6 | 8 | 14 | 17 | 19 | 21 | 24 => table::float_fits(r),
         9 | 27 | 29 => table::colour_fits(r),
@@ -170,6 +171,7 @@ fn fits(r: Record) -> bool
 }
 
 // Behind the karaoke records in range that follow one another from `from` on, up to `end`.
+// For the compiler (MEASURED, Shapes for the compiler): a loop of its own for karaoke records that follow one another.
 fn past_beats(table: &[u32], from: usize, end: usize) -> usize
     requires { ⌜ (from ≤ end) × Inside (now table) 0 end ⌝ }
     ensures { λ r. ⌜ Run (now (table .entry)) end from r ⌝ }
@@ -207,8 +209,7 @@ fn count_spans(table: &[u32]) -> Answer
             n += next - at;
             at = next;
         } else if kind == 49 {
-            let words = table;
-            if let Checked::Bad(x) = table::t_fault(words, at, end - at, r) {
+            if let Checked::Bad(x) = table::t_fault(table, at, end - at, r) {
                 return Answer::Refused(x);
             }
             let inside = r.w5 as usize;

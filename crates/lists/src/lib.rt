@@ -62,7 +62,8 @@ pub fn long_of(n: numeral::Numeral) -> Found
     }
 }
 
-// The first of two places that there is; made anew, as the unused bytes of an enum that is handed on are copied too.
+// The first of two places that there is.
+// For the compiler (MEASURED, Shapes for the compiler): an enum taken apart and made again, as its unused bytes would be copied.
 pub fn first(a: Found, b: Found) -> Found
     ensures { λ r. ⌜ r ≡ firstOf a b ⌝ }
 {

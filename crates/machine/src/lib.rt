@@ -142,6 +142,7 @@ fn bare_turn(
 }
 
 // One token, from i on, that ends at k.
+// For the compiler (MEASURED, Shapes for the compiler): the pen, the number of commands and the place are handed over apart.
 fn turn(
     text: &[u8],
     t: Token,

@@ -176,6 +176,7 @@ fn i32_or(a: OptI32, y: i32) -> i32
 // An option that is handed on is copied with its unused bytes, and the load behind that waits for the narrow stores. So where a field keeps
 // its option, it is taken apart and made again.
 
+// For the compiler (MEASURED, Shapes for the compiler): an option taken apart and made again.
 fn same_f32(a: OptF32) -> OptF32
     ensures { λ r. ⌜ r ≡ a ⌝ }
 {
@@ -185,6 +186,7 @@ fn same_f32(a: OptF32) -> OptF32
     }
 }
 
+// For the compiler (MEASURED, Shapes for the compiler): an option taken apart and made again.
 fn same_pair(a: OptPair) -> OptPair
     ensures { λ r. ⌜ r ≡ a ⌝ }
 {
@@ -194,6 +196,7 @@ fn same_pair(a: OptPair) -> OptPair
     }
 }
 
+// For the compiler (MEASURED, Shapes for the compiler): an option taken apart and made again.
 fn same_rect(a: OptRect) -> OptRect
     ensures { λ r. ⌜ r ≡ a ⌝ }
 {
@@ -203,6 +206,7 @@ fn same_rect(a: OptRect) -> OptRect
     }
 }
 
+// For the compiler (MEASURED, Shapes for the compiler): an option taken apart and made again.
 fn same_rgb(a: OptRgb) -> OptRgb
     ensures { λ r. ⌜ r ≡ a ⌝ }
 {
@@ -212,6 +216,7 @@ fn same_rgb(a: OptRgb) -> OptRgb
     }
 }
 
+// For the compiler (MEASURED, Shapes for the compiler): an option taken apart and made again.
 fn same_u8(a: OptU8) -> OptU8
     ensures { λ r. ⌜ r ≡ a ⌝ }
 {
@@ -221,6 +226,7 @@ fn same_u8(a: OptU8) -> OptU8
     }
 }
 
+// For the compiler (MEASURED, Shapes for the compiler): an option taken apart and made again.
 fn same_i32(a: OptI32) -> OptI32
     ensures { λ r. ⌜ r ≡ a ⌝ }
 {
@@ -502,6 +508,7 @@ fn kept_pair(p: Pair, q: Pair) -> Pair
     q
 }
 
+// For the compiler (MEASURED, Shapes for the compiler): an option taken apart and made again.
 fn kept_pivot(a: OptPair, b: OptPair) -> OptPair
     ensures { λ r. ⌜ r ≡ pick (samePair a b) a b ⌝ }
 {

@@ -48,7 +48,7 @@ fn emit(c: PathCommand, n: usize, path: &mut [u32]) -> usize
     n + 1
 }
 
-// `move_to` and `line_to` are each written out: through a function that both share lines cost 6 percent more.
+// For the compiler (MEASURED, Shapes for the compiler): written out, and not through a function that it shares with `line_to`.
 pub fn move_to(p: Point, n: usize, path: &mut [u32]) -> usize
     requires { ⌜ n < 65536 ⌝ }
     ensures { λ m. ⌜ Emits (now (path .entry)) n (moveTo p ∷ []) m (now (path .exit)) ⌝ }
@@ -71,6 +71,7 @@ pub fn move_to(p: Point, n: usize, path: &mut [u32]) -> usize
     )
 }
 
+// For the compiler (MEASURED, Shapes for the compiler): written out, and not through a function that it shares with `move_to`.
 pub fn line_to(p: Point, n: usize, path: &mut [u32]) -> usize
     requires { ⌜ n < 65536 ⌝ }
     ensures { λ m. ⌜ Emits (now (path .entry)) n (lineTo p ∷ []) m (now (path .exit)) ⌝ }

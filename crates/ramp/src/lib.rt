@@ -21,6 +21,7 @@ fn distance(lo: i32, hi: i32) -> u32
 pub fn quotient(a: u32, b: u32) -> f32
     ensures { λ r. ⌜ r ≡ quotientOf (pos a) (pos b) ⌝ }
 {
+    // For the compiler (MEASURED, Shapes for the compiler): a short way where both are floats as they stand.
     if a < 16777216 {
         if b < 16777216 {
             return a as f32 / b as f32;

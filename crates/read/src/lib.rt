@@ -297,6 +297,7 @@ fn around(l: lists::Found, o: Out) -> Out
     let inner = o.long;
     let long = lists::first(l, inner);
     let of = o.far;
+    // For the compiler (MEASURED, Shapes for the compiler): an enum taken apart and made again.
     let far = lists::first(lists::Found::Nowhere, of);
     Out {
         n: o.n + 1,

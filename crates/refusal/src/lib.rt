@@ -69,6 +69,7 @@ pub fn first_of(a: Checked, b: Checked) -> Checked
 {
     match a {
         Checked::Good => b,
+        // For the compiler (MEASURED, Shapes for the compiler): an enum taken apart and made again.
         Checked::Bad(r) => Checked::Bad(r),
     }
 }

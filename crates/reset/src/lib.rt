@@ -29,8 +29,7 @@ fn reset_tags(table: &[u32], first: usize, count: usize, s: OptReset, t: i32, du
             at += n;
             left -= n;
             if mix::factor(r.w1, r.w2, r.w3, r.w4, t, dur) > 0.0 {
-                let words = table;
-                reset = reset_tags(words, inner, n, reset, t, dur);
+                reset = reset_tags(table, inner, n, reset, t, dur);
             }
         }
     }

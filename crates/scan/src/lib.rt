@@ -98,6 +98,7 @@ pub fn has(class: Class, b: u8) -> bool
 }
 
 // A place from `from` on, with no byte x before it: at the first one, or less than four places before `to`.
+// For the compiler (MEASURED, Shapes for the compiler): four bytes a turn.
 fn unlike(text: &[u8], x: u8, from: usize, to: usize) -> usize
     requires { ⌜ (from ≤ to) × (to ≤ length (now text)) ⌝ }
     ensures { λ r. ⌜ Passed (λ b. not (eqb b x)) (now (text .entry)) from to r ⌝ }
@@ -140,6 +141,7 @@ fn until(text: &[u8], x: u8, from: usize, to: usize) -> usize
 }
 
 // The place behind the letters from `from` on.
+// For the compiler (MEASURED, Shapes for the compiler): a loop of its own for a class.
 fn letters(text: &[u8], from: usize, to: usize) -> usize
     requires { ⌜ (from ≤ to) × (to ≤ length (now text)) ⌝ }
     ensures { λ r. ⌜ Place from to (spanTo (inClass Letter) (now (text .entry)) from to) r ⌝ }
@@ -155,6 +157,7 @@ fn letters(text: &[u8], from: usize, to: usize) -> usize
 }
 
 // A bound of the bytes between two places: the highest.
+// For the compiler (MEASURED, Shapes for the compiler): a loop with no exit, which runs many bytes at a time.
 fn highest(text: &[u8], from: usize, to: usize) -> u8
     requires { ⌜ (from ≤ to) × (to ≤ length (now text)) ⌝ }
     ensures { λ r. ⌜ ((j : ℕ) → from ≤ j → j < to → getD (now (text .entry)) j 0 ≤ r) ⌝ }
@@ -319,6 +322,7 @@ fn opened(b: u8, k: usize) -> usize
 }
 
 // A place from `from` on, with no byte up to x before it: at the first one, or less than four places before `to`.
+// For the compiler (MEASURED, Shapes for the compiler): four bytes a turn.
 pub fn clear(text: &[u8], x: u8, from: usize, to: usize) -> usize
     requires { ⌜ (from ≤ to) × (to ≤ length (now text)) ⌝ }
     ensures { λ r. ⌜ Passed (λ b. ltb x b) (now (text .entry)) from to r ⌝ }
@@ -365,19 +369,21 @@ pub fn closing(text: &[u8], from: usize, to: usize) -> usize
     i
 }
 
-// What the crates above share, no scan: the lesser of two numbers, and two answers as one value, where `&&` and `||` would branch.
+// What the crates above share, no scan: the lesser of two numbers, and two answers as one value.
 pub fn least(a: usize, b: usize) -> usize
     ensures { λ r. ⌜ r ≡ min a b ⌝ }
 {
     if a <= b { a } else { b }
 }
 
+// For the compiler (MEASURED, Shapes for the compiler): two answers as one value, where `&&` would branch.
 pub fn both(a: bool, b: bool) -> bool
     ensures { λ r. ⌜ r ≡ bothOf a b ⌝ }
 {
     if a { b } else { false }
 }
 
+// For the compiler (MEASURED, Shapes for the compiler): two answers as one value, where `||` would branch.
 pub fn either(a: bool, b: bool) -> bool
     ensures { λ r. ⌜ r ≡ eitherOf a b ⌝ }
 {

@@ -88,6 +88,7 @@ pub enum OptReset {
 }
 
 // An option as a field: a struct, since a field that is an enum is not stored to.
+// For the compiler (MEASURED, Shapes for the compiler): an option is an enum in a struct.
 pub struct MaybeF32 {
     pub is: OptF32,
 }

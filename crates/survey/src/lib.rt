@@ -62,7 +62,8 @@ fn slashes(text: &[u8], from: usize, to: usize) -> usize
     n
 }
 
-// Whether no e stands behind a digit or a point: a loop with no exit, which runs many bytes at a time.
+// Whether no e stands behind a digit or a point.
+// For the compiler (MEASURED, Shapes for the compiler): a loop with no exit, which runs many bytes at a time.
 fn no_exponent(text: &[u8], from: usize, to: usize) -> bool
     requires { ⌜ (from ≤ to) × (to ≤ length (now text)) ⌝ }
     ensures { λ r. ⌜ (r ≡ true → (j : ℕ) → from ≤ j → j + 1 < to → Exponent (now (text .entry)) j → ⊥) ⌝ }

@@ -55,6 +55,7 @@ fn is_float(w: u32) -> bool
 fn times_fit(flag: u32, t1: u32, t2: u32) -> bool
     ensures { λ v. ⌜ v ≡ flagTimes flag t1 t2 ⌝ }
 {
+    // For the compiler (MEASURED, Shapes for the compiler): a branch by the flag.
     if flag == 0 {
         return scan::both(t1 == 0, t2 == 0);
     }
@@ -161,6 +162,7 @@ pub fn fade_fits(r: Record) -> bool
 pub fn move_fits(r: Record) -> bool
     ensures { λ v. ⌜ v ≡ both (wordsFit float float float float (range 0 1) time time r) (timesFit (r .w5) (r .w6) (r .w7)) ⌝ }
 {
+    // For the compiler (MEASURED, Shapes for the compiler): the places are looked at before the times.
     let end = scan::both(is_float(r.w3), is_float(r.w4));
     if !scan::both(is_float(r.w1), scan::both(is_float(r.w2), end)) {
         return false;
@@ -233,13 +235,13 @@ pub fn t_stands(r: Record, left: usize, deep: usize) -> bool
     scan::both(t_fits(r), scan::both(0 < deep, n <= left))
 }
 
-// Whether every word of a record is in the range of its kind. Kinds that follow one another stand in two arms: of a run in one arm
-// comparisons would be made, and so each kind is one jump away.
+// Whether every word of a record is in the range of its kind.
 fn in_range(r: Record) -> bool
     ensures { λ v. ⌜ v ≡ inRange r ⌝ }
 {
     let kind = r.kind;
     match kind {
+        // For the compiler (MEASURED, Shapes for the compiler): kinds that follow one another stand in two arms, so that each is one jump away.
         5 | 7 | 10 | 13 | 16 | 18 | 20 | 23 | 35 => float_fits(r),
         6 | 8 | 14 | 17 | 19 | 21 | 24 => float_fits(r),
         9 | 27 | 29 => colour_fits(r),
@@ -298,6 +300,7 @@ fn fault(table: &[u32], from: usize, count: usize, deep: usize) -> Checked
         left -= 1;
         if kind == 49 {
             let n = r.w5 as usize;
+            // For the compiler (MEASURED, Shapes for the compiler): the slice is handed on by a copy.
             let words = table;
             let inner = fault(words, at, n, deep - 1);
             if let Checked::Bad(x) = inner {
@@ -319,6 +322,7 @@ pub fn t_fault(table: &[u32], at: usize, left: usize, r: Record) -> Checked
     if !scan::both(t_fits(r), n <= left - 1) {
         return Checked::Bad(Refusal::TableMalformed(at));
     }
+    // For the compiler (MEASURED, Shapes for the compiler): the slice is handed on by a copy.
     let words = table;
     fault(words, at + 1, n, 7)
 }

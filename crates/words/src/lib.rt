@@ -87,6 +87,7 @@ fn put5(out: &mut [u32], at: usize, a: u32, b: u32, c: u32, d: u32, e: u32)
 
 // ---- a field, from an index on: all words from there on are 0, so that an absent option is there already
 
+// For the compiler (MEASURED, Shapes for the compiler): the words are cleared first, and an absent option writes nothing.
 fn put_f32(out: &mut [u32], at: usize, x: f32)
     requires { ⌜ Free (now out) at 1 ⌝ }
     ensures { λ _. ⌜ Put (now (out .entry)) at 1 (Words.f32 x) (now (out .exit)) ⌝ }
@@ -242,6 +243,7 @@ fn put_opt_reset(out: &mut [u32], at: usize, o: OptReset)
 // ---- the state
 
 // All words 0.
+// For the compiler (MEASURED, Shapes for the compiler): the array, and no slice.
 pub fn clear(out: &mut [u32; 92])
     ensures { λ _. ⌜ Clear (now (out .exit)) 0 ⌝ }
 {
@@ -251,6 +253,7 @@ pub fn clear(out: &mut [u32; 92])
 // Four parts, one behind another: each has few fields at hand.
 
 // alpha_mul to clip_drawing
+// For the compiler (MEASURED, Shapes for the compiler): the array, and no slice.
 pub fn put_from_0(out: &mut [u32; 92], st: RenderState)
     requires { ⌜ Clear (now out) 0 ⌝ }
     ensures { λ _. ⌜ Put (now (out .entry)) 0 18 (wordsFrom0 st) (now (out .exit)) ⌝ }
@@ -278,6 +281,7 @@ pub fn put_from_0(out: &mut [u32; 92], st: RenderState)
 }
 
 // primary_color to iclip_drawing
+// For the compiler (MEASURED, Shapes for the compiler): the array, and no slice.
 pub fn put_from_18(out: &mut [u32; 92], st: RenderState)
     requires { ⌜ Clear (now out) 18 ⌝ }
     ensures { λ _. ⌜ Put (now (out .entry)) 18 26 (wordsFrom18 st) (now (out .exit)) ⌝ }
@@ -315,6 +319,7 @@ pub fn put_from_18(out: &mut [u32; 92], st: RenderState)
 }
 
 // secondary_color to alignment
+// For the compiler (MEASURED, Shapes for the compiler): the array, and no slice.
 pub fn put_from_44(out: &mut [u32; 92], st: RenderState)
     requires { ⌜ Clear (now out) 44 ⌝ }
     ensures { λ _. ⌜ Put (now (out .entry)) 44 26 (wordsFrom44 st) (now (out .exit)) ⌝ }
@@ -356,6 +361,7 @@ pub fn put_from_44(out: &mut [u32; 92], st: RenderState)
 }
 
 // font_name to drawing_scale
+// For the compiler (MEASURED, Shapes for the compiler): the array, and no slice.
 pub fn put_from_70(out: &mut [u32; 92], st: RenderState)
     requires { ⌜ Clear (now out) 70 ⌝ }
     ensures { λ _. ⌜ Put (now (out .entry)) 70 22 (wordsFrom70 st) (now (out .exit)) ⌝ }
