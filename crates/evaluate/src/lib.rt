@@ -33,13 +33,11 @@ fn apply_all(
 ) -> RenderState
     ensures { λ r. ⌜ AppliedAll (now (t .entry)) (now (dur .entry)) (now (table .entry)) write (now (out .entry)) r (now (fault .exit)) (now (out .exit)) ⌝ }
 {
-    // For the compiler (MEASURED, Shapes for the compiler): the slice is handed on by a copy.
-    let words = table;
-    let end = scan::least(words.len() / 8, 1024);
+    let end = scan::least(table.len() / 8, 1024);
     *fault = 0;
     // For the compiler (MEASURED, Shapes for the compiler): the state comes back to where it was given from, in one local.
     let mut st = state::identity();
-    st = evaluators::apply_tags(words, 0, end, 8, st, t, dur, write, fault, out);
+    st = evaluators::apply_tags(table, 0, end, 8, st, t, dur, write, fault, out);
     st
 }
 

@@ -69,7 +69,6 @@ pub fn first_of(a: Checked, b: Checked) -> Checked
 {
     match a {
         Checked::Good => b,
-        // For the compiler (MEASURED, Shapes for the compiler): an enum taken apart and made again.
         Checked::Bad(r) => Checked::Bad(r),
     }
 }

@@ -322,9 +322,7 @@ pub fn t_fault(table: &[u32], at: usize, left: usize, r: Record) -> Checked
     if !scan::both(t_fits(r), n <= left - 1) {
         return Checked::Bad(Refusal::TableMalformed(at));
     }
-    // For the compiler (MEASURED, Shapes for the compiler): the slice is handed on by a copy.
-    let words = table;
-    fault(words, at + 1, n, 7)
+    fault(table, at + 1, n, 7)
 }
 
 // The excess over 1,024 records, or a broken one behind the whole ones.
