@@ -14,6 +14,7 @@ use Rattle.scan.specs.Scan.{pick}
 use Rattle.lists.specs.declared.Found.{Found}
 use Rattle.lists.specs.declared.Found.the-variants.{Nowhere, At}
 use Rattle.refusal.specs.Refusal.{numberOf, placeOf, mostPlaces, textGround}
+use Rattle.refusal.specs.Answer.{firstGround}
 use Rattle.refusal.specs.declared.Refusal.{Refusal}
 use Rattle.refusal.specs.declared.Refusal.the-variants.{NumeralTooLong, FadeTooFar}
 use Rattle.refusal.specs.declared.Checked.{Checked}
@@ -140,7 +141,7 @@ pub record Agreed (s : List ℕ) (x : Span) (a b : Lent) (t u dur : ℤ) (r : Bo
   pub late : Hold r → (g : Refusal) →
       (timeGround t dur ≡ Bad g → LateAt g (r .a .one) (r .b .one) × (a′ .one ≡ a .one) × (b′ .one ≡ b .one)) ×
       (timeGround u dur ≡ Bad g → LateAt g (r .a .other) (r .b .other) × (a′ .other ≡ a .other) × (b′ .other ≡ b .other))
-  -- "after a refusal lent memory is untouched"
+  -- demand 1: "after a refusal lent memory is untouched"
   pub untouched : (¬ (wordGround (r .a .reading) ≡ 0) → a′ ≡ a) × (¬ (wordGround (r .b .reading) ≡ 0) → b′ ≡ b)
   -- "space refused exactly when kept tags exceed places (1,024 count) with the exact count"
   pub space : otherGround s x ≡ Good →
