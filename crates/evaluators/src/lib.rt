@@ -67,7 +67,8 @@ pub fn apply_tags(
     while at < end {
         let r = table::record_at(table, at);
         let kind = r.kind;
-        // For the compiler (MEASURED, Shapes for the compiler): an arm asks the test of its kind by name, and stores a field by a local of its group.
+        // For the compiler (MEASURED, Shapes for the compiler): an arm asks the test of its kind by name. An option is stored by a local of its
+        // group, as the prover covers no store of a struct into a field of a field.
         match kind {
             1 => {
                 if table::numbers_fit(r, 2147483647, 2147483647) {

@@ -145,7 +145,7 @@ fn fits(r: Record) -> bool
 {
     let kind = r.kind;
     match kind {
-        // For the compiler (MEASURED, Shapes for the compiler): kinds that follow one another stand in two arms, so that each is one jump away.
+        // Kinds that follow one another stand in two arms: in one arm a run becomes a comparison, and the fact of an arm no list of its kinds.
         5 | 7 | 10 | 13 | 16 | 18 | 20 | 23 | 35 => table::float_fits(r),
         6 | 8 | 14 | 17 | 19 | 21 | 24 => table::float_fits(r),
         9 | 27 | 29 => table::colour_fits(r),

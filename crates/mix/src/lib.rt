@@ -173,18 +173,8 @@ fn i32_or(a: OptI32, y: i32) -> i32
 
 // ---- an option made anew
 
-// An option that is handed on is copied with its unused bytes, and the load behind that waits for the narrow stores. So where a field keeps
-// its option, it is taken apart and made again.
-
-// For the compiler (MEASURED, Shapes for the compiler): an option taken apart and made again.
-fn same_f32(a: OptF32) -> OptF32
-    ensures { λ r. ⌜ r ≡ a ⌝ }
-{
-    match a {
-        OptF32::None => OptF32::None,
-        OptF32::Some(x) => OptF32::Some(x),
-    }
-}
+// A pair's or a rectangle's option that is handed on is copied with its unused bytes, and the load behind that waits for the narrow stores. So
+// where a field keeps it, it is taken apart and made again.
 
 // For the compiler (MEASURED, Shapes for the compiler): an option taken apart and made again.
 fn same_pair(a: OptPair) -> OptPair
@@ -206,43 +196,13 @@ fn same_rect(a: OptRect) -> OptRect
     }
 }
 
-// For the compiler (MEASURED, Shapes for the compiler): an option taken apart and made again.
-fn same_rgb(a: OptRgb) -> OptRgb
-    ensures { λ r. ⌜ r ≡ a ⌝ }
-{
-    match a {
-        OptRgb::None => OptRgb::None,
-        OptRgb::Some(x) => OptRgb::Some(x),
-    }
-}
-
-// For the compiler (MEASURED, Shapes for the compiler): an option taken apart and made again.
-fn same_u8(a: OptU8) -> OptU8
-    ensures { λ r. ⌜ r ≡ a ⌝ }
-{
-    match a {
-        OptU8::None => OptU8::None,
-        OptU8::Some(x) => OptU8::Some(x),
-    }
-}
-
-// For the compiler (MEASURED, Shapes for the compiler): an option taken apart and made again.
-fn same_i32(a: OptI32) -> OptI32
-    ensures { λ r. ⌜ r ≡ a ⌝ }
-{
-    match a {
-        OptI32::None => OptI32::None,
-        OptI32::Some(x) => OptI32::Some(x),
-    }
-}
-
 // ---- an option between two
 
 fn mix_opt_f32(a: OptF32, b: OptF32, k: f32) -> OptF32
     ensures { λ r. ⌜ r ≡ mixF32 a b k ⌝ }
 {
     match b {
-        OptF32::None => same_f32(a),
+        OptF32::None => a,
         OptF32::Some(y) => OptF32::Some(float::lerp_f32(f32_or(a, y), y, k)),
     }
 }
@@ -269,7 +229,7 @@ fn mix_opt_rgb(a: OptRgb, b: OptRgb, k: f32) -> OptRgb
     ensures { λ r. ⌜ r ≡ mixOptRgb a b k ⌝ }
 {
     match b {
-        OptRgb::None => same_rgb(a),
+        OptRgb::None => a,
         OptRgb::Some(y) => OptRgb::Some(mix_rgb(rgb_or(a, y), y, k)),
     }
 }
@@ -278,7 +238,7 @@ fn mix_opt_u8(a: OptU8, b: OptU8, k: f32) -> OptU8
     ensures { λ r. ⌜ r ≡ mixU8 a b k ⌝ }
 {
     match b {
-        OptU8::None => same_u8(a),
+        OptU8::None => a,
         OptU8::Some(y) => OptU8::Some(round_between(u8_or(a, y), y, k)),
     }
 }
@@ -287,7 +247,7 @@ fn mix_opt_i32(a: OptI32, b: OptI32, k: f32) -> OptI32
     ensures { λ r. ⌜ r ≡ mixI32 a b k ⌝ }
 {
     match b {
-        OptI32::None => same_i32(a),
+        OptI32::None => a,
         OptI32::Some(y) => OptI32::Some(float::round_away(float::lerp_f32(
             float::nearest_i32(i32_or(a, 0)),
             float::nearest_i32(y),

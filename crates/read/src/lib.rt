@@ -296,9 +296,7 @@ fn around(l: lists::Found, o: Out) -> Out
 {
     let inner = o.long;
     let long = lists::first(l, inner);
-    let of = o.far;
-    // For the compiler (MEASURED, Shapes for the compiler): an enum taken apart and made again.
-    let far = lists::first(lists::Found::Nowhere, of);
+    let far = o.far;
     Out {
         n: o.n + 1,
         long,

@@ -97,40 +97,13 @@ pub fn has(class: Class, b: u8) -> bool
     }
 }
 
-// A place from `from` on, with no byte x before it: at the first one, or less than four places before `to`.
-// For the compiler (MEASURED, Shapes for the compiler): four bytes a turn.
-fn unlike(text: &[u8], x: u8, from: usize, to: usize) -> usize
-    requires { ⌜ (from ≤ to) × (to ≤ length (now text)) ⌝ }
-    ensures { λ r. ⌜ Passed (λ b. not (eqb b x)) (now (text .entry)) from to r ⌝ }
-{
-    let mut i = from;
-    while to - i >= 4 {
-        if text[i] == x {
-            return i;
-        }
-        let j = i + 1;
-        if text[j] == x {
-            return j;
-        }
-        let k = i + 2;
-        if text[k] == x {
-            return k;
-        }
-        let l = i + 3;
-        if text[l] == x {
-            return l;
-        }
-        i += 4;
-    }
-    i
-}
-
 // The first place from `from` on with the byte x, or `to`.
+// For the compiler (MEASURED, Shapes for the compiler): a loop of its own for a class.
 fn until(text: &[u8], x: u8, from: usize, to: usize) -> usize
     requires { ⌜ (from ≤ to) × (to ≤ length (now text)) ⌝ }
     ensures { λ r. ⌜ Place from to (spanTo (inClass (Not x)) (now (text .entry)) from to) r ⌝ }
 {
-    let mut i = unlike(text, x, from, to);
+    let mut i = from;
     while i < to {
         if text[i] == x {
             return i;

@@ -62,26 +62,6 @@ fn slashes(text: &[u8], from: usize, to: usize) -> usize
     n
 }
 
-// Whether no e stands behind a digit or a point.
-// For the compiler (MEASURED, Shapes for the compiler): a loop with no exit, which runs many bytes at a time.
-fn no_exponent(text: &[u8], from: usize, to: usize) -> bool
-    requires { ⌜ (from ≤ to) × (to ≤ length (now text)) ⌝ }
-    ensures { λ r. ⌜ (r ≡ true → (j : ℕ) → from ≤ j → j + 1 < to → Exponent (now (text .entry)) j → ⊥) ⌝ }
-{
-    let mut none = true;
-    let mut i = from;
-    while to - i > 1 {
-        let a = text[i];
-        let k = i + 1;
-        let b = text[k];
-        if is_exponent(a, b) {
-            none = false;
-        }
-        i += 1;
-    }
-    none
-}
-
 // Whether no e behind a digit or a point begins an exponent that goes on to the end of a field.
 fn harmless(text: &[u8], from: usize, to: usize) -> bool
     requires { ⌜ (from ≤ to) × (to ≤ length (now text)) ⌝ }
@@ -146,9 +126,6 @@ pub fn plain(text: &[u8], from: usize, to: usize) -> bool
     ensures { λ r. ⌜ (r ≡ true → Unplain (now (text .entry)) to from to → ⊥) ⌝ }
 {
     if no_ten(text, from, to) {
-        if no_exponent(text, from, to) {
-            return true;
-        }
         return harmless(text, from, to);
     }
     false
