@@ -7,6 +7,7 @@ use lib.Ieee.{Float}
 use lib.ListN.{length}
 use borrow.Author.Tests.{lt-ltb, le-ltb, le-leb, lt-leb}
 use Rattle.refusal.specs.Refusal.{textGround}
+use Rattle.refusal.specs.Answer.{firstGround}
 use Rattle.refusal.specs.declared.Refusal.{Refusal}
 use Rattle.refusal.specs.declared.Refusal.the-variants.{ScaleTooLarge, NoRoom}
 use Rattle.refusal.specs.declared.Checked.the-variants.{Good, Bad}
@@ -14,7 +15,6 @@ use Rattle.tokens.specs.Tokens.{from, tokensGround}
 use Rattle.machine.specs.declared.Traced.{Traced}
 use Rattle.refusal.specs.declared.Answer.the-variants.{Written, Refused}
 use Rattle.pen.specs.Drawing.{scaleOf}
-use Rattle.machine.specs.Grounds.{unless}
 use Rattle.drawing.specs.Answer.{ground, drawing, answer, after, Answered}
 use Rattle.machine.specs.Inner.{Traces}
 use Rattle.tokens.specs.Inner.{Straight}
@@ -27,7 +27,7 @@ module _ (s t : List ℕ) (x : ℕ) where
   answered-text e = record { drawing = rw e; path = rw e }
 
   module _ (good : textGround s ≡ Good) where
-    pub answered-large : {r : Refusal} → 32 < x → unless (tokensGround (from s 0)) (Bad ScaleTooLarge) ≡ Bad r → Answered s x t (Refused r) t
+    pub answered-large : {r : Refusal} → 32 < x → firstGround (tokensGround (from s 0)) (Bad ScaleTooLarge) ≡ Bad r → Answered s x t (Refused r) t
     unfolding ground answer after
     answered-large h e = record { drawing = rw (good, lt-ltb 32 x h, e); path = rw (good, lt-ltb 32 x h, e) }
 

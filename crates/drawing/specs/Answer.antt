@@ -12,10 +12,9 @@ use Rattle.path.specs.Path.{commandWidth, laidPath}
 use Rattle.refusal.specs.declared.Checked.{Checked}
 use Rattle.refusal.specs.declared.Checked.the-variants.{Good, Bad}
 use Rattle.refusal.specs.declared.Answer.{Answer}
-use Rattle.refusal.specs.Answer.{roomFor, unlessBad, tableAfter}
+use Rattle.refusal.specs.Answer.{firstGround, roomFor, unlessBad, tableAfter}
 use Rattle.tokens.specs.Tokens.{from, tokensGround}
 use Rattle.pen.specs.Drawing.{scaleOf, draw}
-use Rattle.machine.specs.Grounds.{unless}
 
 -- 01, ground 7: "a drawing's scale exponent is above 32"
 abbrev pub mostExponent : ℕ
@@ -25,7 +24,7 @@ abbrev pub exponentGround : ℕ → Checked
 exponentGround x = pick (ltb mostExponent x) (Bad ScaleTooLarge) Good
 
 unfoldable pub ground : List ℕ → ℕ → Checked
-ground s exponent = unless (textGround s) (unless (tokensGround (from s 0)) (exponentGround exponent))
+ground s exponent = firstGround (textGround s) (firstGround (tokensGround (from s 0)) (exponentGround exponent))
 
 -- the commands of a drawing
 abbrev pub drawing : List ℕ → ℕ → List PathCommand

@@ -2,11 +2,11 @@
 ghost use mathlib.Core.Path.{_≡_};
 ghost use Prim.Native.Nat.{_≤_};
 ghost use Rattle.refusal.specs.Refusal.{textGround};
+ghost use Rattle.refusal.specs.Answer.{firstGround};
 ghost use Rattle.refusal.specs.declared.Checked.the-variants.{Good, Bad};
 ghost use Rattle.refusal.specs.declared.Refusal.the-variants.{ScaleTooLarge};
 ghost use Rattle.tokens.specs.Tokens.{from as tokensFrom, tokensGround};
 ghost use Rattle.pen.specs.Drawing.{scaleOf};
-ghost use Rattle.machine.specs.Grounds.{unless};
 ghost use Rattle.drawing.specs.Answer.{Answered};
 use machine::draw;
 use refusal::Answer;
@@ -52,7 +52,7 @@ fn draw_good(text: &[u8], exponent: u32, path: &mut [u32]) -> Answer
 
 // Grounds 3 and 7 of a drawing whose scale exponent is too large.
 fn too_large(text: &[u8]) -> Refusal
-    ensures { λ r. ⌜ unless (tokensGround (tokensFrom (now (text .entry)) 0)) (Bad ScaleTooLarge) ≡ Bad r ⌝ }
+    ensures { λ r. ⌜ firstGround (tokensGround (tokensFrom (now (text .entry)) 0)) (Bad ScaleTooLarge) ≡ Bad r ⌝ }
 {
     let third = tokens::check_tokens(text);
     match third {

@@ -9,6 +9,7 @@ use lib.Ieee.{Float}
 use types.Run.{OneOf}
 use denote.Enum.Declared.{tagOf}
 use Rattle.scan.proofs.Laws.{picked}
+use Rattle.refusal.specs.Answer.{firstGround}
 use Rattle.refusal.specs.declared.Refusal.{Refusal}
 use Rattle.refusal.specs.declared.Refusal.the-variants.{NumeralTooLong}
 use Rattle.refusal.specs.declared.Checked.{Checked}
@@ -25,7 +26,6 @@ use Rattle.pen.specs.declared.Pen.{Pen}
 use Rattle.tokens.specs.Tokens.{from, untilLetter, tail, tokensGround}
 use Rattle.tokens.specs.Inner.{NextIs}
 use Rattle.pen.specs.Drawing.{Read1, none1, point, Read3, none3, points, readPoint, behindPoint, readThree, Turn, turned, settled, continues, pointedBy, curveBy, bareBy, movesBy, command, commandOf, letterTurn, turnOf}
-use Rattle.machine.specs.Grounds.{unless}
 use Rattle.machine.specs.Inner.{Passes}
 
 -- the tokens behind a point, or all of them
@@ -89,7 +89,7 @@ command-ground Close k pen ts h = refl
 command-ground Unknown k pen ts h = absurd (⊎-elim (λ z. omega arith) (λ h. ⊎-elim (λ z. omega arith) (λ h. ⊎-elim (λ z. omega arith) (λ h. ⊎-elim (λ z. omega arith) (λ h. ⊎-elim (λ z. omega arith) (λ z. omega arith) h) h) h) h) h)
 
 -- the tail of an unknown command, then the rest
-tail-splits : (ts : List Token) → tokensGround ts ≡ unless (tokensGround (tail ts)) (tokensGround (untilLetter ts))
+tail-splits : (ts : List Token) → tokensGround ts ≡ firstGround (tokensGround (tail ts)) (tokensGround (untilLetter ts))
 unfolding tokensGround tail untilLetter
 tail-splits [] = refl
 tail-splits (Letter b ∷ ts) = refl
@@ -102,15 +102,15 @@ module _ (k : Float) (pen : Pen) (ts : List Token) where
   unfolding tokensGround letterTurn
   letter-known b c e h = picked (λ (u : Turn). tokensGround ts ≡ tokensGround (u .rest)) (continues (pen .mode) b) (turned pen [] ts) (command (commandOf b) k (settled pen) ts) refl (rw (← e) (command-ground c k (settled pen) ts h))
 
-  pub letter-unknown : (b : ℕ) → commandOf b ≡ Unknown → tokensGround (Letter b ∷ ts) ≡ unless (tokensGround (tail ts)) (tokensGround (letterTurn b k pen ts .rest))
+  pub letter-unknown : (b : ℕ) → commandOf b ≡ Unknown → tokensGround (Letter b ∷ ts) ≡ firstGround (tokensGround (tail ts)) (tokensGround (letterTurn b k pen ts .rest))
   unfolding tokensGround letterTurn
   letter-unknown b q =
       let r = tokensGround (tail ts) in
-      picked (λ (u : Turn). tokensGround ts ≡ unless r (tokensGround (u .rest))) (continues (pen .mode) b) (turned pen [] ts) (command (commandOf b) k (settled pen) ts)
+      picked (λ (u : Turn). tokensGround ts ≡ firstGround r (tokensGround (u .rest))) (continues (pen .mode) b) (turned pen [] ts) (command (commandOf b) k (settled pen) ts)
       (either-way r (tail-splits ts))
       (rw q (tail-splits ts))
     where
-      either-way : (r : Checked) → tokensGround ts ≡ unless r (tokensGround (untilLetter ts)) → tokensGround ts ≡ unless r (tokensGround ts)
+      either-way : (r : Checked) → tokensGround ts ≡ firstGround r (tokensGround (untilLetter ts)) → tokensGround ts ≡ firstGround r (tokensGround ts)
       either-way Good e = refl
       either-way (Bad x) e = e
 
@@ -132,10 +132,10 @@ module _ {s : List ℕ} {i j : ℕ} {t : Token} (k : Float) (pen : Pen) (r : Che
   pub ground-turned : (next : ℕ) → r ≡ Good → from s next ≡ turnOf t k pen (from s i) (from s j) .rest → tokensGround (from s i) ≡ tokensGround (from s next)
   ground-turned next e q =
       let rest = turnOf t k pen (t ∷ from s j) (from s j) .rest in
-      ap tokensGround (n .is) ∙ f k pen ∙ ap (λ (x : Checked). unless x (tokensGround rest)) e
+      ap tokensGround (n .is) ∙ f k pen ∙ ap (λ (x : Checked). firstGround x (tokensGround rest)) e
       ∙ sym (ap tokensGround (q ∙ ap (λ (l : List Token). turnOf t k pen l (from s j) .rest) (n .is)))
 
   pub ground-stopped : {x : Refusal} → r ≡ Bad x → tokensGround (from s i) ≡ r
   ground-stopped e =
       let rest = turnOf t k pen (t ∷ from s j) (from s j) .rest in
-      ap tokensGround (n .is) ∙ f k pen ∙ ap (λ (x : Checked). unless x (tokensGround rest)) e ∙ sym e
+      ap tokensGround (n .is) ∙ f k pen ∙ ap (λ (x : Checked). firstGround x (tokensGround rest)) e ∙ sym e
