@@ -92,7 +92,7 @@ pub fn panels(tags: &Tags, marks: &[Range], duration: i32) -> Result<(Vec<Panel>
 }
 
 /// The instants to look at: both ends of the line and of each range of marks, the instant before it, and some inside.
-/// Where no mark lies between two of them, nothing moves there.
+/// Where no mark lies between two of them, the state stays there.
 fn instants(marks: &[Range], duration: i32) -> Vec<i32> {
     let step = (ranges::total(marks) / MOST_INSTANTS).max(1);
     let mut instants = vec![0, i64::from(duration.max(0))];

@@ -107,7 +107,7 @@ fn next_moves(marks: &Marks, moves: &Moves, sung: bool) -> Vec<Vec<Cell>> {
         (Some(moved), Some(mark)) => format!("{moved}, a syllable; next mark {mark}"),
         (Some(moved), None) => format!("{moved}, a syllable; no later mark"),
         (None, Some(mark)) => format!("never in the line; next mark {mark}"),
-        (None, None) => "never".into(),
+        (None, None) => format!("never{}", if sung { " in the line" } else { "" }),
     };
     let row = |(place, (mark, moved)): (usize, (&marks::Next, &moves::Next))| {
         let name = if place == 0 { heading("next") } else { "".into() };

@@ -102,7 +102,7 @@ fn marks_and_syllables_are_told_apart() {
             "after 200: 201, a syllable; next mark 701",
             "after 300: 500, a syllable; next mark 701",
             "after 700: 701, a mark",
-            "after 1000: never",
+            "after 1000: never in the line",
         ]
     );
 }
@@ -117,7 +117,7 @@ fn what_never_moves() {
             "not after the line's start",
             "0 marks in a line of 5,000 ms",
             "1 syllable from 0 to 500 ms, moving nothing after the line's start",
-            "after 0: never",
+            "after 0: never in the line",
         ]
     );
 }
@@ -138,7 +138,7 @@ fn syllables_beyond_the_line() {
             "0 marks in a line of 1,000 ms",
             "4 syllables from 0 to 1700 ms, moving at 501–1000; 2 begin after the line's end",
             "after 500: 501, a syllable; no later mark",
-            "after 1000: never",
+            "after 1000: never in the line",
         ]
     );
     assert_eq!(
