@@ -15,7 +15,7 @@ import sys
 from pathlib import Path
 
 ROOT = Path(__file__).resolve().parent.parent
-PLACES = ["crates", "docs", "README.md", "include", "host", "oracle", "examples"]
+PLACES = ["crates", "docs", "README.md", "CONTRIBUTING.md", "include", "host", "oracle", "examples"]
 KINDS = {".antt", ".rt", ".edit", ".md", ".h", ".c", ".rs", ".py", ".sh"}
 NOT_OURS = {"target", "upstream", "built", "citations.py"}
 
@@ -64,7 +64,7 @@ def main():
         text = words(path, specs)
         for m in SECTION.finditer(text):
             x = " ".join(m[1].split())
-            there = any((h + " ").startswith(x) or x.startswith(h + " ") for h in headings) or x in grounds
+            there = any((h + " ").startswith(x + " ") or x.startswith(h + " ") for h in headings) or x in grounds
             found.append((m, there, f"01, {x}: no such heading or ground in docs/SCOPE.md"))
         found += [(m, m[1] in requests, f"{m[0]}: no such row in docs/REQUESTS.md") for m in REQUEST.finditer(text)]
         for m in (QUOTE if specs else QUOTE_OF_01).finditer(text):

@@ -12,8 +12,9 @@ import sys
 
 os.chdir(os.path.dirname(os.path.dirname(os.path.abspath(__file__))))
 # The papers whose names in backquotes are checked, and the sources that have these names.
-NAMED = ["README.md", "CONTRIBUTING.md", "docs/ARCHITECTURE.md", "docs/DECISIONS.md", "docs/TRACE.md"]
-SOURCES = ["crates/**/*.rt", "crates/**/*.antt", "host/**/*.rs", "oracle/**/*.rs", "oracle/*.py", "include/*"]
+NAMED = ["README.md", "CONTRIBUTING.md", "docs/ARCHITECTURE.md", "docs/DECISIONS.md", "docs/TRACE.md",
+         "host/README.md", "host/desk/README.md", "oracle/README.md", "examples/c/README.md"]
+SOURCES = ["crates/**/*.rt", "crates/**/*.antt", "host/**/*.rs", "oracle/**/*.rs", "oracle/*.py", "oracle/*.toml", "include/*"]
 # What is a path; and files of the library that is followed (NOTICE), named by their places there.
 FILE = r"[\w+-][\w.+-]*(/[\w.+-]+)*(/|\.(md|antt|rt|rs|sh|py|txt|toml|lock|h|c|svg|diff|edit))|\.ci/run"
 ELSEWHERE = {"src/animate.rs", "src/drawing.rs"}
@@ -84,7 +85,7 @@ def fault_in(name):
         return m[3] not in tests(files) and "there is no such test"
     if m := re.fullmatch(r"([a-z]\w*)(?:::|!|/(?:proofs/)?[A-Z]).*(?<!\.antt)(?<!\.md)", name):
         if m[1] not in crates():
-            return not there(m[1]) and f"there is no crate {m[1]}"
+            return m[1] != "f32" and not there(m[1]) and f"there is no crate {m[1]}"
     if re.fullmatch(r"[a-z]\w*(::\w+)+", name):
         return not in_source(*name.split("::")) and "it is not in the sources"
     if m := re.fullmatch(r"([a-z]\w*)!(\w+)", name):
@@ -157,11 +158,14 @@ def check_counts():
 
 
 def check_map():
-    """README's map has the crates of crates.txt, and its table "elsewhere" the papers."""
+    """README's map has the crates of crates.txt, each below those that it uses, and its table "elsewhere" the papers."""
     layers, elsewhere = read("README.md").split("\n| elsewhere |")
     mapped = re.findall(r"^\|[^|]*\| `(\w+)` \|", layers[layers.index("\n| layer |"):], re.M)
     for c in sorted(set(crates()) ^ set(mapped)):
         tell("README.md", f"`{c}` stands in crates.txt or in the map, and not in both")
+    for c, used in re.findall(r"^(\w+):(.*)", read("crates.txt"), re.M):
+        for below in set(used.split()) & set(mapped[mapped.index(c):] if c in mapped else ()):
+            tell("README.md", f"`{c}` uses `{below}`, which the map has below it")
     for paper in papers()[1:] + there("LICENSE"):
         if f"`{paper}`" not in elsewhere.split("\n\n")[0]:
             tell("README.md", f'the table "elsewhere" does not name {paper}')
@@ -184,7 +188,7 @@ def check_citations():
     heads = {"DECISIONS": titles + ["Forms"], "MEASURED": re.findall(r"^#+ (.+)", read("docs/MEASURED.md"), re.M)}
     for title in sorted({t for t in titles if titles.count(t) > 1}):
         tell("docs/DECISIONS.md", f'two decisions have the title "{title}"')
-    for paper in papers():
+    for paper in papers() + there("crates/*/src/*.rt"):
         for m in re.finditer(r"\b(DECISIONS|MEASURED)(?:\.md)?,\s+([A-Z][^.;:()]*)", read(paper)):
             if not any(" ".join(m[2].split()).startswith(t) for t in heads[m[1]]):
                 tell(line_of(paper, read(paper), m), f"there is no {' '.join(m[0].split())}")

@@ -1,4 +1,4 @@
--- Between marks nothing moves: where no mark of the tags lies after t and up to u, the state at t is the state at u.
+-- Between marks the state stays: where no mark of the tags lies after t and up to u, the state at t is the state at u.
 use mathlib.Core.Path.{_≡_, refl, sym, ap, _∙_}
 use mathlib.Core.Logic.{⊎-elim}
 use mathlib.Core.List.{List, [], _∷_, _++_}
