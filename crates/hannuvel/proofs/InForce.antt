@@ -25,7 +25,7 @@ use Rattle.evaluate.specs.Evaluate.{evaluatedOr, evaluated}
 use Rattle.style.specs.Style.{textsGround, named, refused, unless}
 use Rattle.style.specs.declared.Place.{Place}
 use Rattle.style.proofs.Places.{Short, texts-short, Fits, named-fits}
-use Rattle.hannuvel.specs.Packed.{wordValue, Says}
+use Rattle.hannuvel.specs.Packed.{wordValue, Unpacks, Says}
 use Rattle.hannuvel.specs.InForce.{styleOf, styleAt, StyleCall}
 use Rattle.hannuvel.specs.Inner.{packed, wordOf, styleWord}
 use Rattle.hannuvel.proofs.Unpacked.{unpacked, plain, Low, call-low}
@@ -104,7 +104,8 @@ module _ (ws : List ℕ) (t dur : ℤ) (block own : List ℕ) {r : ℕ} (w : r �
       let f : (answer .from ≤ answer .to) × (answer .to ≤ mostBytes) = rw e at (answer-fits ws t dur block own) in
       let high : answer .to < 2 ^ 16 = lt-of-le-of-lt (f .1) (lit< tt) in
       let short : answer .to - answer .from < 2 ^ 16 = omega arith in
-      let v : wordValue r ≡ answer .from * 2 ^ 16 + (answer .to - answer .from) = rw e at (said .value) in
+      let u : Unpacks r 0 (pick (answer .«of_block») 1 0) (answer .from * 2 ^ 16 + (answer .to - answer .from)) = rw e at said in
+      let v = u .value in
       let some : 0 < 2 ^ 16 = lit< tt in
       (rw (v, mul-add-div-right some (answer .from) (answer .to - answer .from), div-eq-of-lt short, add-zero), rw (v, mul-add-mod-self-right (answer .from) (2 ^ 16) (answer .to - answer .from), mod-eq-of-lt short))
 

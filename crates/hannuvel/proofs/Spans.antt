@@ -15,7 +15,8 @@ use Rattle.refusal.specs.declared.Refusal.the-variants.{TimeOutOfRange}
 use Rattle.refusal.specs.declared.Checked.{Checked}
 use Rattle.refusal.specs.declared.Checked.the-variants.{Good, Bad}
 use Rattle.refusal.specs.declared.Answer.{Answer}
-use Rattle.refusal.specs.Answer.{numberIn, placeIn, groundOf, roomFor, unlessBad, answerValue}
+use Rattle.refusal.proofs.Laws.{placeIn}
+use Rattle.refusal.specs.Answer.{numberIn, groundOf, roomFor, unlessBad, answerValue}
 use Rattle.tag.specs.WellFormed.{tableGround}
 use Rattle.table.specs.Ground.{inTime}
 use Rattle.karaoke.specs.declared.KaraokeSpan.{KaraokeSpan}

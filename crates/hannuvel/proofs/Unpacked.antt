@@ -17,8 +17,8 @@ use Rattle.refusal.specs.declared.Refusal.the-variants.{TimeOutOfRange}
 use Rattle.refusal.specs.declared.Checked.{Checked}
 use Rattle.refusal.specs.declared.Checked.the-variants.{Good, Bad}
 use Rattle.refusal.specs.declared.Answer.{Answer}
-use Rattle.refusal.specs.Answer.{firstGround, numberIn, placeIn, groundOf, answerValue}
-use Rattle.refusal.proofs.Laws.{Few, Within, value-small}
+use Rattle.refusal.specs.Answer.{firstGround, numberIn, groundOf, answerValue}
+use Rattle.refusal.proofs.Laws.{placeIn, Few, Within, value-small}
 use Rattle.read.specs.Reading.{answer}
 use Rattle.tag.specs.declared.Record.{Record}
 use Rattle.tag.specs.WellFormed.{recordsOf, holds, tableGround, AtFault, range, deep, past, later, inner, behind}

@@ -21,9 +21,9 @@ pub record SpansCall (ws t : List ℕ) (r : ℕ) (u : List ℕ) : Type 0 where
 -- ---- `hannuvel_progress`
 
 -- the span that two numbers say; its kind makes no difference to progress
-abbrev pub spanFrom : ℕ → ℕ → KaraokeSpan
-spanFrom start end = record { kind = Fill; «start_ms» = ms start; «end_ms» = ms end }
+abbrev pub spanGiven : ℕ → ℕ → KaraokeSpan
+spanGiven start end = record { kind = Fill; «start_ms» = ms start; «end_ms» = ms end }
 
 -- what the call says: the number r, whose value is the f32's bits
 pub record ProgressCall (start end : ℕ) (t : ℤ) (r : ℕ) : Type 0 where
-  pub answered : let p = progressed (spanFrom start end) t in Says r (groundOf p) 0 (bits (progressOf p))
+  pub answered : let p = progressed (spanGiven start end) t in Says r (groundOf p) 0 (bits (progressOf p))

@@ -4,7 +4,9 @@ use mathlib.Core.List.{List}
 use Prim.Native.Nat.{ℕ, _/_, _%_, _^_, _≤_}
 use Rattle.refusal.specs.declared.Answer.{Answer}
 use Rattle.refusal.specs.declared.Checked.{Checked}
-use Rattle.refusal.specs.Answer.{numberIn, placeIn, beside, groundOf, answerValue}
+use Rattle.refusal.specs.declared.Checked.the-variants.{Good, Bad}
+use Rattle.refusal.specs.Refusal.{numberOf, placeOf}
+use Rattle.refusal.specs.Answer.{numberIn, groundOf, answerValue}
 use Rattle.tag.specs.Table.{placesOf}
 use Rattle.read.specs.declared.Span.{Span}
 use Rattle.read.specs.Reading.{answer, after}
@@ -31,7 +33,8 @@ pub record Unpacks (w g e v : ℕ) : Type 0 where
 
 -- What a call's number w says: the number and the place of the ground that the checks found; without one the extra e and the value v.
 abbrev pub Says : ℕ → Checked → ℕ → ℕ → Type 0
-Says w c e v = Unpacks w (numberIn c) (beside c 0 e) (beside c (placeIn c) v)
+Says w Good e v = Unpacks w 0 e v
+Says w (Bad r) e v = Unpacks w (numberOf r) 0 (placeOf r)
 
 -- the same of a call that fills a table: how many records, spans or commands it wrote; for a ground its place or count
 abbrev pub SaysAnswer : ℕ → Answer → Type 0

@@ -7,7 +7,7 @@ ghost use Rattle.hannuvel.specs.Instant.{EvaluatingCall, MarkingCall};
 ghost use Prim.Native.Nat.{_≤_};
 ghost use Rattle.scan.specs.Scan.{pick};
 ghost use Rattle.hannuvel.specs.InForce.{StyleCall};
-ghost use Rattle.hannuvel.specs.Karaoke.{SpansCall, spanFrom, ProgressCall};
+ghost use Rattle.hannuvel.specs.Karaoke.{SpansCall, spanGiven, ProgressCall};
 ghost use Rattle.hannuvel.specs.Inner.{refusalWord, answerWord, clipWord, markedWord, SignedMark, progressWord, styleWord};
 
 fn packed_refusal(r: refusal::Refusal) -> u64
@@ -114,7 +114,7 @@ pub extern "C" fn hannuvel_karaoke_spans(table: &[u32], spans: &mut [u32]) -> u6
 }
 
 fn span_from(start: u32, end: u32) -> karaoke::KaraokeSpan
-    ensures { λ s. ⌜ s ≡ spanFrom start end ⌝ }
+    ensures { λ s. ⌜ s ≡ spanGiven start end ⌝ }
 {
     karaoke::KaraokeSpan {
         kind: tag::KaraokeKind::Fill,

@@ -1,16 +1,15 @@
 -- A block inside a longer text reads as it does alone, offsets moved on.
 use mathlib.Core.Path.{_≡_, refl, sym, ap, _∙_}
 use mathlib.Core.List.{List, _∷_, _++_}
-use mathlib.Core.Bool.{Bool, true, false}
 use mathlib.Core.Logic.{⊎-elim}
-use Prim.Native.Nat.{ℕ, zero, suc, _+_, _-_, _≤_, _<_, min}
+use Prim.Native.Nat.{ℕ, zero, suc, _+_, _-_, _≤_, _<_}
 use native.Mathlib.Omega.{arith}
 use native.Mathlib.Nat.{le-refl, add-zero}
 use lib.ListN.{length, getD, take, drop, length-drop, take-append-drop, List·getD-append}
 use lib.Seq.{getD-append-add, length-take-le, drop-drop}
-use lib.Dec.{leb, eqb}
+use lib.Dec.{eqb}
 use lib.Ieee.{Float}
-use Rattle.scan.specs.Scan.{pick, inClass, closingTo, trimStart}
+use Rattle.scan.specs.Scan.{inClass, closingTo, trimStart}
 use Rattle.scan.specs.declared.Class.the-variants.{Digit, Letter, Not, Neither}
 use Rattle.scan.proofs.Laws.{le-or-lt}
 use Rattle.numeral.specs.Numeral.{F32, tooLong, number, f32At}
@@ -23,14 +22,12 @@ use Rattle.plain.specs.Names.{keyAt, tKey}
 use Rattle.plain.specs.Plain.{One, no, long, kept, far, plainAt}
 use Rattle.read.specs.declared.Head.{Head}
 use Rattle.read.specs.Block.{Got, join, oneGot, paramAt, headAt, Peel, peeled, withHead, peelHead, headEnd, peel, peelTo, tOf, tagAt, walk, tagsIn, tAt, parse}
-use Rattle.read.specs.Moved.{movedPart, movedTag, movedTags, movedFound, moved, movedAnswer, innerText, AsAlone}
+use Rattle.read.specs.Moved.{movedPart, movedTag, movedTags, movedFound, moved, innerText, AsAlone}
 use Rattle.refusal.specs.Answer.{unlessBad}
 use Rattle.tag.specs.Table.{placesOf}
 use Rattle.read.specs.Reading.{keptTags, readGround, wholeText, lessBraces, blockOf, answer, Answered}
-use Rattle.refusal.specs.Refusal.{mostPlaces, textGround}
-use Rattle.refusal.specs.declared.Refusal.the-variants.{NoRoom}
+use Rattle.refusal.specs.Refusal.{textGround}
 use Rattle.refusal.specs.declared.Answer.{Answer}
-use Rattle.refusal.specs.declared.Answer.the-variants.{Written, Refused}
 use Rattle.read.specs.declared.Span.{Span}
 use Rattle.read.proofs.Parts.{SpanIn, braces-in}
 use Rattle.read.proofs.MovedScan.{Window, On, either, if-lt, on, next, gap, ltb-on, eqb-on, byte, span-on, closing-on, past-on, trim-start-on}
@@ -192,16 +189,6 @@ kept-moved k g = count-map (movedPart k) (g .tags)
 
 -- ---- the part of a text that a call reads
 
-ground-moved : (k : ℕ) (l f : Found) (n places : ℕ) → readGround (movedFound k l) (movedFound k f) n places ≡ movedAnswer k (readGround l f n places)
-unfolding readGround
-ground-moved k (At p) f n places = refl
-ground-moved k Nowhere (At p) n places = refl
-ground-moved k Nowhere Nowhere n places = go (leb n (min places mostPlaces))
-  where
-    go : (b : Bool) → pick b (Written n) (Refused (NoRoom n)) ≡ movedAnswer k (pick b (Written n) (Refused (NoRoom n)))
-    go true = refl
-    go false = refl
-
 -- The block, and the answer, are those of that part alone, offsets moved on: for the second call of what is left of the text less blanks and braces
 -- (`braces-in` says that it lies inside). Grounds 1 and 2 look at the text given.
 module _ (s : List ℕ) (x : Span) (inside : SpanIn s x) where
@@ -224,11 +211,11 @@ module _ (s : List ℕ) (x : Span) (inside : SpanIn s x) where
       let w : length a + length inner ≡ x .to = rw (la, li) z in
       rw (e, w, la) at (block-moved a inner b mostDepth)
 
-  pub answer-inside : (places : ℕ) → let g = blockOf inner (wholeText inner) in answer s x places ≡ unlessBad (textGround s) (movedAnswer (x .from) (readGround (g .long) (g .far) (keptTags g) places))
+  pub answer-inside : (places : ℕ) → let g = blockOf inner (wholeText inner) in answer s x places ≡ unlessBad (textGround s) (readGround (movedFound (x .from) (g .long)) (movedFound (x .from) (g .far)) (keptTags g) places)
   unfolding answer
   answer-inside places =
       let g = blockOf inner (wholeText inner) in
-      rw (block-inside, kept-moved (x .from) g, ground-moved (x .from) (g .long) (g .far) (keptTags g) places)
+      rw (block-inside, kept-moved (x .from) g)
 
 -- so the second call says it beside its answer
 pub raw-said : (s : List ℕ) {t u : List ℕ} {r : Answer} → Answered s (lessBraces s) t r u → Answered s (lessBraces s) t r u × AsAlone s (lessBraces s) (placesOf t) r

@@ -294,13 +294,13 @@ fn around(l: lists::Found, o: Out) -> Out
     requires { ⌜ o .n < 65536 ⌝ }
     ensures { λ r. ⌜ r ≡ aroundOut l o ⌝ }
 {
-    let inner = o.long;
-    let long = lists::first(l, inner);
-    let far = o.far;
+    let inner_long = o.long;
+    let long = lists::first(l, inner_long);
+    let inner_far = o.far;
     Out {
         n: o.n + 1,
         long,
-        far,
+        far: inner_far,
     }
 }
 

@@ -18,8 +18,8 @@ use Rattle.refusal.specs.declared.Checked.{Checked}
 use Rattle.refusal.specs.declared.Checked.the-variants.{Good, Bad}
 use Rattle.refusal.specs.declared.Answer.{Answer}
 use Rattle.refusal.specs.declared.Answer.the-variants.{Written, Refused}
-use Rattle.refusal.specs.Refusal.{mostBytes, mostPlaces, textGround}
-use Rattle.refusal.specs.Answer.{placeIn, groundOf, answerValue, roomFor, unlessBad}
+use Rattle.refusal.specs.Refusal.{placeOf, mostBytes, mostPlaces, textGround}
+use Rattle.refusal.specs.Answer.{groundOf, answerValue, roomFor, unlessBad}
 
 -- a text with no ground 1 is short
 pub good-short : (s : List ℕ) → textGround s ≡ Good → length s ≤ mostBytes
@@ -31,6 +31,10 @@ good-short s e =
     (le-or-lt (length s) mostBytes)
 
 -- ---- 01, Grounds: "Each gives its number and the stated place or count (else 0)": that is no more than the text has bytes, and no more than 12,288
+
+abbrev pub placeIn : Checked → ℕ
+placeIn Good = 0
+placeIn (Bad r) = placeOf r
 
 abbrev pub Within : List ℕ → Answer → Type 0
 Within s a = (placeIn (groundOf a) ≤ length s) × (placeIn (groundOf a) ≤ mostBytes)

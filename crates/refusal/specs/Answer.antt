@@ -18,14 +18,10 @@ firstGround (Bad r) c = Bad r
 
 -- ---- what stands for what a check finds
 
--- 01, Grounds for turning a call down: "Each gives its number and the stated place or count (else 0)"; 0 where no ground stands
+-- 01, Grounds for turning a call down: "Each gives its number and the stated place or count (else 0)": the number, 0 where no ground stands
 abbrev pub numberIn : Checked → ℕ
 numberIn Good = 0
 numberIn (Bad r) = numberOf r
-
-abbrev pub placeIn : Checked → ℕ
-placeIn Good = 0
-placeIn (Bad r) = placeOf r
 
 -- "Beside it stand the state `identity`, progress 0, no mark, scale 1 or an empty part": x beside a ground, else the answer's own y
 abbrev pub beside : {A : Type 0} → Checked → A → A → A
