@@ -8,7 +8,7 @@ use native.Mathlib.Omega.{arith}
 use lib.Dec.{leb}
 use lib.IntN.{ℤ}
 use lib.ListN.{length, take}
-use lib.Signed.{leZ, _≤ℤ_}
+use lib.Signed.{leZ}
 use lib.Seq.{take-all}
 use borrow.Author.Tests.{le-leb, lt-leb, leb-true, leb-false}
 use Rattle.scan.specs.Scan.{pick}
@@ -38,6 +38,7 @@ use Rattle.state.specs.Apply.{evaluateAt}
 use Rattle.words.specs.Words.{stateWords}
 use Rattle.evaluate.specs.declared.Evaluated.{Evaluated}
 use Rattle.evaluate.specs.Evaluate.{evaluated}
+use Rattle.marks.specs.declared.Mark.{Mark}
 use Rattle.marks.specs.declared.Marked.{Marked}
 use Rattle.marks.specs.Answer.{marked}
 use Rattle.marks.specs.Marks.{marks, NoMark, nextMark}
@@ -49,7 +50,7 @@ use Rattle.hannuvel.specs.Instant.{Names}
 use Rattle.animate.specs.declared.Seen.{Seen}
 use Rattle.animate.specs.declared.Told.{Told}
 use Rattle.animate.specs.declared.Both.{Both}
-use Rattle.animate.specs.Claim.{tagsIn, blockGround, otherGround, earlier, later, Lent, lent, Refuses, FromText, OnlyFromText, Space, counted, Hold, LateAt, Shown, Agreed}
+use Rattle.animate.specs.Claim.{blockTags, longGround, farGround, otherGround, earlier, later, Lent, lent, Refuses, FromText, OnlyFromText, Space, counted, Hold, LateAt, Shown, Agreed}
 use Rattle.animate.specs.Inner.{recordsIn, Saw, Ran}
 
 -- ---- refusals and space
@@ -58,14 +59,14 @@ use Rattle.animate.specs.Inner.{recordsIn, Saw, Ran}
 abbrev out : Checked → Found → Found → ℕ → ℕ → Answer
 out c l f n p = unlessBad c (readGround l f n p)
 
-refused-out : (c : Checked) (l f : Found) (n p : ℕ) (g : Refusal) → firstGround c (blockGround l f) ≡ Bad g → out c l f n p ≡ Refused g
+refused-out : (c : Checked) (l f : Found) (n p : ℕ) (g : Refusal) → firstGround c (firstGround (longGround l) (farGround f)) ≡ Bad g → out c l f n p ≡ Refused g
 unfolding readGround
 refused-out (Bad b) l f n p g e = cc
 refused-out Good (At a) f n p g e = cc
 refused-out Good Nowhere (At a) n p g e = cc
 refused-out Good Nowhere Nowhere n p g e = absurd (let z : _≡_ {A = ℕ} 0 1 = cc in omega arith)
 
-space-out : (c : Checked) (l f : Found) (n p : ℕ) → firstGround c (blockGround l f) ≡ Good → out c l f n p ≡ roomFor n p
+space-out : (c : Checked) (l f : Found) (n p : ℕ) → firstGround c (firstGround (longGround l) (farGround f)) ≡ Good → out c l f n p ≡ roomFor n p
 unfolding readGround
 space-out (Bad b) l f n p e = absurd (let z : _≡_ {A = ℕ} 0 1 = cc in omega arith)
 space-out Good (At a) f n p e = absurd (let z : _≡_ {A = ℕ} 0 1 = cc in omega arith)
@@ -84,6 +85,11 @@ numbered ScaleTooLarge e = omega arith
 numbered NameBeyondText e = omega arith
 numbered (NoRoom n) e = omega arith
 
+-- a number that names a mark, or none, is no refusal
+named : (w : ℕ) (m : Mark) → Names w m → wordGround w ≡ 0
+named w Mark.None n = n .ground
+named w (Mark.At a) n = n .0 .ground
+
 -- so many words of a list, or all of it where it has fewer
 pub take-least : (n m : ℕ) (l : List ℕ) → m ≡ min n (length l) → take m l ≡ take n l
 take-least n m l e = go (leb n (length l)) refl
@@ -96,7 +102,7 @@ take-least n m l e = go (leb n (length l)) refl
 
 module _ (s : List ℕ) (x : Span) (inside : SpanIn s x) (t u dur : ℤ) where
   abbrev l : Tags
-  l = tagsIn s x
+  l = blockTags s x
 
   is-out : (p : ℕ) → answer s x p ≡ out (textGround s) (blockOf s x .long) (blockOf s x .far) (count l) p
   unfolding answer
@@ -176,11 +182,11 @@ module _ (s : List ℕ) (x : Span) (inside : SpanIn s x) (t u dur : ℤ) where
       state-is : w ≡ stateWords (evaluateAt i dur l)
       state-is = rw is-state at (saw .state .state)
 
-      answers : Unpacks (p .evaluated) 0 0 0
-      answers = rw is-state at (saw .state .answered)
-
       next-is : Names (p .next) (nextMark i dur l)
       next-is = rw (h .tags) at (saw .next .exact fine .names)
+
+      answers : Unpacks (p .evaluated) 0 0 0 × (wordGround (p .next) ≡ 0)
+      answers = (rw is-state at (saw .state .answered), named (p .next) (nextMark i dur l) next-is)
 
     -- out of range it is refused
     module _ (g : Refusal) (k : timeGround i dur ≡ Bad g) {v w : List ℕ} {p : Seen} (saw : Saw ws i dur v p w) where

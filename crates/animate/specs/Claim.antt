@@ -35,22 +35,27 @@ use Rattle.animate.specs.declared.Both.{Both}
 -- ---- from the text alone
 
 -- "A block is the text given to either reading call": the second one drops blanks and braces first
-abbrev pub spanOf : Bool → List ℕ → Span
-spanOf true s = lessBraces s
-spanOf false s = wholeText s
+abbrev pub readSpan : Bool → List ℕ → Span
+readSpan true s = lessBraces s
+readSpan false s = wholeText s
 
--- the block's tags: "A tag is kept if it stands, at any depth, in what `parse_overrides` gives"
-abbrev pub tagsIn : List ℕ → Span → Tags
-tagsIn s x = blockOf s x .tags
+-- the block's tags: "A tag is kept if it stands, at any depth, in what `parse_overrides` gives". Of their number, `count`, "A \t counts as one
+-- tag and each tag inside it as one more".
+abbrev pub blockTags : List ℕ → Span → Tags
+blockTags s x = blockOf s x .tags
 
--- grounds 3 and 4 of a block, then all grounds but space: 1 and 2 of the text come before them
-abbrev pub blockGround : Found → Found → Checked
-blockGround (At p) far = Bad (NumeralTooLong p)
-blockGround Nowhere (At p) = Bad (FadeTooFar p)
-blockGround Nowhere Nowhere = Good
+-- ground 3 of a block, and 4
+abbrev pub longGround : Found → Checked
+longGround (At p) = Bad (NumeralTooLong p)
+longGround Nowhere = Good
 
+abbrev pub farGround : Found → Checked
+farGround (At p) = Bad (FadeTooFar p)
+farGround Nowhere = Good
+
+-- all grounds but space, in checking order: 1 and 2 of the text, then these
 unfoldable pub otherGround : List ℕ → Span → Checked
-otherGround s x = firstGround (textGround s) (blockGround (blockOf s x .long) (blockOf s x .far))
+otherGround s x = firstGround (textGround s) (firstGround (longGround (blockOf s x .long)) (farGround (blockOf s x .far)))
 
 -- of two instants, which may be equal
 abbrev pub earlier : ℤ → ℤ → ℤ
@@ -92,7 +97,8 @@ pub record Space (n p w : ℕ) : Type 0 where
 abbrev pub counted : Lent → ℕ
 counted a = min (placesOf (a .table)) mostPlaces
 
--- "A table holds a block if the reading into it succeeded": both do
+-- "A table holds a block if the reading into it succeeded": both do. That the calls "then get exactly the records which that reading wrote"
+-- is what `two_controllers` does (`Ran` in Inner.antt).
 pub record Hold (r : Both) : Type 0 where
   pub a : wordGround (r .a .reading) ≡ 0
   pub b : wordGround (r .b .reading) ≡ 0
@@ -102,10 +108,10 @@ pub record LateAt (g : Refusal) (p q : Seen) : Type 0 where
   pub a : Refuses (p .evaluated) g × Refuses (p .next) g
   pub b : Refuses (q .evaluated) g × Refuses (q .next) g
 
--- both evaluations answer
+-- both calls answer, for both controllers; an evaluation that answers has no extra and no value
 pub record AnswerAt (p q : Seen) : Type 0 where
-  pub a : Unpacks (p .evaluated) 0 0 0
-  pub b : Unpacks (q .evaluated) 0 0 0
+  pub a : Unpacks (p .evaluated) 0 0 0 × (wordGround (p .next) ≡ 0)
+  pub b : Unpacks (q .evaluated) 0 0 0 × (wordGround (q .next) ≡ 0)
 
 -- both next marks after the instant t are the block's earliest later one, or none exactly when it has none
 pub record NextAt (l : Tags) (dur t : ℤ) (p q : Seen) : Type 0 where
@@ -145,7 +151,7 @@ pub record Agreed (s : List ℕ) (x : Span) (a b : Lent) (t u dur : ℤ) (r : Bo
   pub untouched : (¬ (wordGround (r .a .reading) ≡ 0) → a′ ≡ a) × (¬ (wordGround (r .b .reading) ≡ 0) → b′ ≡ b)
   -- "space refused exactly when kept tags exceed places (1,024 count) with the exact count"
   pub space : otherGround s x ≡ Good →
-      let n = count (tagsIn s x) in
+      let n = count (blockTags s x) in
       Space n (counted a) (r .a .reading) × Space n (counted b) (r .b .reading)
   -- "and where both hold the block, for every duration and any two instants": what they show
-  pub shown : Hold r → InTime t → InTime u → InTime dur → Shown (tagsIn s x) t u dur r a′ b′
+  pub shown : Hold r → InTime t → InTime u → InTime dur → Shown (blockTags s x) t u dur r a′ b′

@@ -26,9 +26,13 @@ pub record Saw (ws : List ℕ) (t dur : ℤ) (v : List ℕ) (r : Seen) (u : List
   pub state : EvaluatingCall ws t dur v (r .evaluated) u
   pub next : MarkingCall ws t dur (r .next)
 
+-- the numbers of a controller that makes no call
+abbrev pub unseen : Seen
+unseen = record { evaluated = 0; next = 0 }
+
 -- where the reading succeeds both instants are asked for, and where it is refused no other call is made
 pub record Ran (s : List ℕ) (x : Span) (a : Lent) (t u dur : ℤ) (r : Told) (a′ : Lent) : Type 0 where
   pub reading : ReadingCall s x (a .table) (r .reading) (a′ .table)
   pub one : wordGround (r .reading) ≡ 0 → Saw (recordsIn (r .reading) (a′ .table)) t dur (a .one) (r .one) (a′ .one)
   pub other : wordGround (r .reading) ≡ 0 → Saw (recordsIn (r .reading) (a′ .table)) u dur (a .other) (r .other) (a′ .other)
-  pub unasked : 0 < wordGround (r .reading) → (a′ .one ≡ a .one) × (a′ .other ≡ a .other)
+  pub unasked : 0 < wordGround (r .reading) → (a′ .one ≡ a .one) × (a′ .other ≡ a .other) × (r .one ≡ unseen) × (r .other ≡ unseen)

@@ -2,7 +2,7 @@
 ghost use mathlib.Core.Path.{_≡_};
 ghost use lib.ListN.{take};
 ghost use Rattle.hannuvel.specs.Packed.{ReadingCall};
-ghost use Rattle.animate.specs.Claim.{spanOf, lent, Agreed};
+ghost use Rattle.animate.specs.Claim.{readSpan, lent, Agreed};
 ghost use Rattle.animate.specs.Inner.{wordsIn, Saw, Ran};
 
 // The numbers that a controller is given at an instant: of evaluation and of the next mark.
@@ -26,7 +26,7 @@ pub struct Both {
 
 // Either reading call: of a block in braces, or of one without.
 fn read_block(text: &[u8], raw: bool, table: &mut [u32]) -> u64
-    ensures { λ r. ⌜ ReadingCall (now (text .entry)) (spanOf raw (now (text .entry))) (now (table .entry)) r (now (table .exit)) ⌝ }
+    ensures { λ r. ⌜ ReadingCall (now (text .entry)) (readSpan raw (now (text .entry))) (now (table .entry)) r (now (table .exit)) ⌝ }
 {
     if raw {
         hannuvel::hannuvel_parse_raw_block(text, table)
@@ -64,7 +64,7 @@ fn controller(
     u: i32,
     dur: i32,
 ) -> Told
-    ensures { λ r. ⌜ Ran (now (text .entry)) (spanOf raw (now (text .entry))) (lent (now (table .entry)) (now (first .entry)) (now (second .entry))) t u dur r (lent (now (table .exit)) (now (first .exit)) (now (second .exit))) ⌝ }
+    ensures { λ r. ⌜ Ran (now (text .entry)) (readSpan raw (now (text .entry))) (lent (now (table .entry)) (now (first .entry)) (now (second .entry))) t u dur r (lent (now (table .exit)) (now (first .exit)) (now (second .exit))) ⌝ }
 {
     let reading = read_block(text, raw, table);
     if reading / 281474976710656 > 0 {
@@ -104,9 +104,9 @@ pub fn two_controllers(
     u: i32,
     dur: i32,
 ) -> Both
-    ensures { λ r. ⌜ Agreed (now (text .entry)) (spanOf raw (now (text .entry))) (lent (now (a .entry)) (now (a1 .entry)) (now (a2 .entry))) (lent (now (b .entry)) (now (b1 .entry)) (now (b2 .entry))) t u dur r (lent (now (a .exit)) (now (a1 .exit)) (now (a2 .exit))) (lent (now (b .exit)) (now (b1 .exit)) (now (b2 .exit))) ⌝ }
-    ensures { λ r. ⌜ Ran (now (text .entry)) (spanOf raw (now (text .entry))) (lent (now (a .entry)) (now (a1 .entry)) (now (a2 .entry))) t u dur (r .a) (lent (now (a .exit)) (now (a1 .exit)) (now (a2 .exit))) ⌝ }
-    ensures { λ r. ⌜ Ran (now (text .entry)) (spanOf raw (now (text .entry))) (lent (now (b .entry)) (now (b1 .entry)) (now (b2 .entry))) t u dur (r .b) (lent (now (b .exit)) (now (b1 .exit)) (now (b2 .exit))) ⌝ }
+    ensures { λ r. ⌜ Agreed (now (text .entry)) (readSpan raw (now (text .entry))) (lent (now (a .entry)) (now (a1 .entry)) (now (a2 .entry))) (lent (now (b .entry)) (now (b1 .entry)) (now (b2 .entry))) t u dur r (lent (now (a .exit)) (now (a1 .exit)) (now (a2 .exit))) (lent (now (b .exit)) (now (b1 .exit)) (now (b2 .exit))) ⌝ }
+    ensures { λ r. ⌜ Ran (now (text .entry)) (readSpan raw (now (text .entry))) (lent (now (a .entry)) (now (a1 .entry)) (now (a2 .entry))) t u dur (r .a) (lent (now (a .exit)) (now (a1 .exit)) (now (a2 .exit))) ⌝ }
+    ensures { λ r. ⌜ Ran (now (text .entry)) (readSpan raw (now (text .entry))) (lent (now (b .entry)) (now (b1 .entry)) (now (b2 .entry))) t u dur (r .b) (lent (now (b .exit)) (now (b1 .exit)) (now (b2 .exit))) ⌝ }
 {
     let first = controller(text, raw, a, a1, a2, t, u, dur);
     let second = controller(text, raw, b, b1, b2, t, u, dur);

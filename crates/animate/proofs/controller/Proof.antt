@@ -11,7 +11,7 @@ returns : tie.Need-returns
 returns c =
     let e = c .before .before .before .read-block .ensures in
     let p = c .if1 .taken in
-    record { reading = e; one = λ z. absurd (omega (arith, p, z)); other = λ z. absurd (omega (arith, p, z)); unasked = λ q. (refl, refl) }
+    record { reading = e; one = λ z. absurd (omega (arith, p, z)); other = λ z. absurd (omega (arith, p, z)); unasked = λ q. (refl, refl, refl, refl) }
 
 returns-2 : tie.Need-returns-2
 returns-2 c =
