@@ -31,13 +31,13 @@ use Rattle.tokens.specs.Tokens.{isLetter, special, oneLetter, tokenOf, numeralT
 use Rattle.pen.specs.Drawing.{f2, f4, scaleOf, scaled, weighed, bez, spanOf, Read1, none1, point, Read3, none3, points, behindNumber, readPoint, behindPoint, readThree, Turn, turned, Gives, splinePoint, byMode, settled, settledBy, pointedBy, curveBy, bareBy, continues, movesBy, command, commandOf, letterTurn, turnOf, walk, start}
 use Rattle.path.specs.Path.{moveTo, lineTo, cubicTo, closed}
 use Rattle.drawing.specs.Answer.{drawing}
-use Rattle.drawing.specs.Finite.{Within, most, FiniteWord, FiniteCommand, FinitePath, end, and}
+use Rattle.drawing.specs.Finite.{Bounded, most, FiniteWord, FiniteCommand, FinitePath, end, and}
 use Rattle.drawing.proofs.Within.{e0, e1, e2, e4, e5, e6, mul-within, weighed-within, weighed-fits, reach-within}
 
 -- ---- floats and points
 
 pub record Near (x : Float) : Type 0 where
-  pub within : Within most x
+  pub within : Bounded most x
   pub fits : T (fits binary32 x)
 
 pub record NearPoint (p : Point) : Type 0 where
@@ -56,7 +56,7 @@ unfolding toBits
 no-word = record { value = f0; finite = near-zero .within; fits = near-zero .fits; is = refl }
 
 module _ {a b c : Point} (x : NearPoint a) (y : NearPoint b) (z : NearPoint c) where
-  near-bez : (wa wb wc : Float) → ((u v t : Float) → Within most u → Within most v → Within most t → Within most (weighed u wa v wb t wc)) → NearPoint (bez a wa b wb c wc)
+  near-bez : (wa wb wc : Float) → ((u v t : Float) → Bounded most u → Bounded most v → Bounded most t → Bounded most (weighed u wa v wb t wc)) → NearPoint (bez a wa b wb c wc)
   near-bez wa wb wc w =
       record {
         x = record { within = w (a .x) (b .x) (c .x) (x .x .within) (y .x .within) (z .x .within); fits = weighed-fits (a .x) wa (b .x) wb (c .x) wc };
@@ -78,7 +78,7 @@ scale-test nan = false
 scale-test (inf s) = false
 scale-test (fin s m e) = leb (m * up e) (1 * down e)
 
-tested : (x : Float) → T (scale-test x) → Within 1 x
+tested : (x : Float) → T (scale-test x) → Bounded 1 x
 unfolding scale-test
 tested nan h = absurd h
 tested (inf s) h = absurd h
@@ -99,7 +99,7 @@ each-at p (suc n) x h l =
     (λ (e : x < n). each-at p n x (and-r (p n) (each p n) h) e)
     (le-or-lt n x)
 
-scale-small : (x : ℕ) → x ≤ 32 → Within 1 (scaleOf x)
+scale-small : (x : ℕ) → x ≤ 32 → Bounded 1 (scaleOf x)
 unfolding each scale-test scaleOf round ofInt div
 scale-small x h = tested (scaleOf x) (each-at (λ (y : ℕ). scale-test (scaleOf y)) 33 x tt (omega arith))
 
@@ -198,7 +198,7 @@ Near3 (points p q r ts) = NearPoint p × NearPoint q × NearPoint r × NearToken
 still : {pen : Pen} {ts : List Token} → NearPen pen → NearTokens ts → NearTurn (turned pen [] ts)
 still p t = record { pen = p; path = end; rest = t }
 
-module _ (k : Float) (small : Within 1 k) where
+module _ (k : Float) (small : Bounded 1 k) where
   near-scaled : {x y : Float} → Near x → Near y → NearPoint (scaled k x y)
   unfolding scaled
   near-scaled {x} {y} a b =

@@ -8,10 +8,10 @@ use Rattle.rows.specs.Rows.{bits}
 use Rattle.path.specs.declared.PathCommand.{PathCommand}
 
 -- x is finite, of magnitude at most n
-abbrev pub Within : ℕ → Float → Type 0
-Within n nan = ⊥
-Within n (inf s) = ⊥
-Within n (fin s m e) = m * up e ≤ n * down e
+abbrev pub Bounded : ℕ → Float → Type 0
+Bounded n nan = ⊥
+Bounded n (inf s) = ⊥
+Bounded n (fin s m e) = m * up e ≤ n * down e
 
 -- the largest magnitude of a coordinate
 abbrev pub most : ℕ
@@ -20,7 +20,7 @@ most = 1000000000
 -- w is the bits of a finite f32
 pub record FiniteWord (w : ℕ) : Type 0 where
   pub value : Float
-  pub finite : Within most value
+  pub finite : Bounded most value
   pub fits : T (fits binary32 value)
   pub is : w ≡ bits value
 

@@ -22,32 +22,32 @@ use Rattle.state.specs.declared.OptReset.{OptReset}
 use Rattle.state.specs.declared.RenderState.{RenderState}
 use Rattle.state.specs.State.{resetTo}
 use Rattle.style.specs.declared.Place.{Place}
-use Rattle.style.specs.Style.{place, refused, ownName, givenName, named, unless, lower, textsGround, styleIn, Within}
+use Rattle.style.specs.Style.{place, refused, ownName, givenName, named, unless, lowerGround, textsGround, styleIn, InItsText}
 
 module _ (block own : List ℕ) where
-  none-within : (r : Refusal) → Within block own (refused r)
+  none-within : (r : Refusal) → InItsText block own (refused r)
   none-within r = record { order = omega arith; high = omega arith }
 
-  own-within : Within block own (ownName own)
+  own-within : InItsText block own (ownName own)
   own-within = record { order = omega arith; high = omega arith }
 
-  given-within : (p : Part) → Within block own (givenName p (length block))
+  given-within : (p : Part) → InItsText block own (givenName p (length block))
   given-within p = go (leb (p .offset + p .size) (length block)) refl
     where
-      go : (t : Bool) → leb (p .offset + p .size) (length block) ≡ t → Within block own (pick t (place Good true (p .offset) (p .offset + p .size)) (refused NameBeyondText))
+      go : (t : Bool) → leb (p .offset + p .size) (length block) ≡ t → InItsText block own (pick t (place Good true (p .offset) (p .offset + p .size)) (refused NameBeyondText))
       go true e = record { order = omega arith; high = leb-true _ _ e }
       go false e = none-within NameBeyondText
 
-  pub named-within : (o : OptReset) → Within block own (named o block own)
+  pub named-within : (o : OptReset) → InItsText block own (named o block own)
   named-within (OptReset.Named p) = given-within p
   named-within OptReset.Plain = own-within
   named-within OptReset.None = own-within
 
-  unless-within : (c : Checked) {p : Place} → Within block own p → Within block own (unless c p)
+  unless-within : (c : Checked) {p : Place} → InItsText block own p → InItsText block own (unless c p)
   unless-within Good w = w
   unless-within (Bad r) w = none-within r
 
-  pub style-within : (st : RenderState) → Within block own (styleIn st block own)
+  pub style-within : (st : RenderState) → InItsText block own (styleIn st block own)
   style-within st = unless-within (textsGround block own) (named-within (resetTo st))
 
 -- a ground's place lies in a text of at most 12,288 bytes
@@ -63,7 +63,7 @@ module _ (block own : List ℕ) where
   pub texts-short : Short (textsGround block own)
   texts-short = go (textGround block) (textGround own) refl refl
     where
-      go : (c d : Checked) → textGround block ≡ c → textGround own ≡ d → Short (lower c d)
+      go : (c d : Checked) → textGround block ≡ c → textGround own ≡ d → Short (lowerGround c d)
       go Good Good e f = (good-short block e, good-short own f)
       go Good (Bad q) e f = text-low own q f
       go (Bad r) Good e f = text-low block r e

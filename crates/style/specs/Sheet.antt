@@ -13,7 +13,7 @@ use Rattle.refusal.specs.declared.Checked.the-variants.{Good, Bad}
 use Rattle.tag.specs.Tag.{Tags, none, and, R, T, plain, named, times}
 use Rattle.state.specs.Apply.{applyOwn, applyTags, evaluateAt}
 use Rattle.style.specs.declared.Place.{Place}
-use Rattle.style.specs.Style.{lower, place, refused, styleIn}
+use Rattle.style.specs.Style.{lowerGround, place, refused, styleIn}
 
 -- tags, the block that they stand in, the line's own style name, and the style in force at 500 in a line of 1,000
 abbrev Row : Type 0
@@ -47,5 +47,5 @@ unfolding evaluateAt applyTags applyOwn span textGround
 styles = refl
 
 -- 1 for the name before 2 for the block, 1 for the block before 2 for the name
-pub lengths-first : (lower (Bad (NotAscii 3)) (Bad TextTooLong) ≡ Bad TextTooLong) × (lower (Bad TextTooLong) (Bad (NotAscii 0)) ≡ Bad TextTooLong)
+pub lengths-first : (lowerGround (Bad (NotAscii 3)) (Bad TextTooLong) ≡ Bad TextTooLong) × (lowerGround (Bad TextTooLong) (Bad (NotAscii 0)) ≡ Bad TextTooLong)
 lengths-first = (refl, refl)

@@ -23,14 +23,14 @@ use Rattle.style.specs.declared.Place.{Place}
 -- ---- the grounds of the two texts
 
 -- of two grounds the one of the lower number, of equal numbers the first
-abbrev pub lower : Checked → Checked → Checked
-lower Good d = d
-lower (Bad r) Good = Bad r
-lower (Bad r) (Bad q) = pick (leb (numberOf r) (numberOf q)) (Bad r) (Bad q)
+abbrev pub lowerGround : Checked → Checked → Checked
+lowerGround Good d = d
+lowerGround (Bad r) Good = Bad r
+lowerGround (Bad r) (Bad q) = pick (leb (numberOf r) (numberOf q)) (Bad r) (Bad q)
 
 -- "Refusals 1 and 2 look at the block, then at the name": 1 for the block, 1 for the name, 2 for the block, 2 for the name; a place counts in its own text
 abbrev pub textsGround : List ℕ → List ℕ → Checked
-textsGround block own = lower (textGround block) (textGround own)
+textsGround block own = lowerGround (textGround block) (textGround own)
 
 -- ---- which text, and which part of it
 
@@ -63,7 +63,7 @@ abbrev pub styleIn : RenderState → List ℕ → List ℕ → Place
 styleIn st block own = unless (textsGround block own) (named (resetTo st) block own)
 
 -- that it lies within its text
-pub record Within (block own : List ℕ) (p : Place) : Type 0 where
+pub record InItsText (block own : List ℕ) (p : Place) : Type 0 where
   pub order : p .from ≤ p .to
   pub high : p .to ≤ length (pick (p .«of_block») block own)
 

@@ -2,7 +2,7 @@
 ghost use mathlib.Core.Path.{_≡_};
 ghost use mathlib.Core.Bool.{false};
 ghost use Rattle.refusal.specs.declared.Checked.the-variants.{Good};
-ghost use Rattle.style.specs.Style.{lower, textsGround, place, refused, givenName, named, styleIn, Within, IsName, InForce};
+ghost use Rattle.style.specs.Style.{lowerGround, textsGround, place, refused, givenName, named, styleIn, InItsText, IsName, InForce};
 
 // The style in force by places: a ground that stands against it, whether it is a part of the block, and where it begins and ends.
 pub struct Place {
@@ -14,7 +14,7 @@ pub struct Place {
 
 // The ground of the lower number, of equal numbers the first.
 fn lower_ground(c: refusal::Checked, d: refusal::Checked) -> refusal::Checked
-    ensures { λ r. ⌜ r ≡ lower c d ⌝ }
+    ensures { λ r. ⌜ r ≡ lowerGround c d ⌝ }
 {
     match c {
         refusal::Checked::Good => d,
@@ -108,7 +108,7 @@ pub fn style_at<'a>(st: state::RenderState, block: &'a [u8], own: &'a [u8]) -> P
 
 // The part that a place names, of the block or of the name: the caller's own bytes where they lie.
 fn part_at<'a>(p: Place, block: &'a [u8], own: &'a [u8]) -> &'a [u8]
-    requires { ⌜ Within (now block) (now own) p ⌝ }
+    requires { ⌜ InItsText (now block) (now own) p ⌝ }
     ensures { λ r. ⌜ IsName p (block .entry) (own .entry) r ⌝ }
 {
     let from = p.from;

@@ -45,7 +45,7 @@ use denote.Exit.{yes}
 use Rattle.state.specs.declared.RenderState.{RenderState}
 use Rattle.state.proofs.RenderState as R
 use Rattle.state.proofs.RenderState.Laws as R′
-use Rattle.style.specs.Style.{styleIn, Within, IsName}
+use Rattle.style.specs.Style.{styleIn, InItsText, IsName}
 use Rattle.style.specs.declared.Place.{Place}
 use Rattle.style.specs.declared.StyleName.{StyleName}
 use Rattle.style.proofs.Places.{style-within}
@@ -155,7 +155,7 @@ module _ {M : Type 1} (𝓤 : URA M) (H : Heap 𝓤) (A : Atoms 𝓤) (W : Given
       move ! (2 ∷ 0 ∷ []) $ fjoin ! $ move ! (3 ∷ 0 ∷ []) $ use2 W (raw (At 𝓤 H A mem run .pre to-at)) (qed W ((‵ (flft κ q) ⊛ ‵ ftrue) ∷ ‵ (fsep Own Texts) ∷ []) ∵ join ! $ frame ! $ done !) $ frame ! $
       move ! (1 ∷ 0 ∷ []) $ frame ! $ done !
 
-  goes-part : (p : Place) → Within (now b) (now o) p
+  goes-part : (p : Place) → InItsText (now b) (now o) p
       → ent 𝓤 (⋆ 𝓤 H A (‵ (OwnPlace p (low p ∷ [])) ∷ (‵ (flft κ q) ⊛ ‵ ftrue) ∷ ‵ Texts ∷ [])) (⋆ 𝓤 H A (raw (Part 𝓤 H A mem run .pre (to-part p)) ∷ ‵ (OwnPlace p (low p ∷ [])) ∷ ‵ Texts ∷ []))
   goes-part p w =
       qed W (‵ (OwnPlace p (low p ∷ [])) ∷ (‵ (flft κ q) ⊛ ‵ ftrue) ∷ ‵ Texts ∷ []) ∵
@@ -200,7 +200,7 @@ module _ {M : Type 1} (𝓤 : URA M) (H : Heap 𝓤) (A : Atoms 𝓤) (W : Given
         land ! (from ! (stop !)) (init ! 6 refl (typed-here p (u ∷ []) is)) $
         rewrite ! 6 (λ (x : Val). ‵ (fat fullShare here l₄ 0 x)) (ap only (LL.tells P.the-type P′.the-laws p _ is)) refl $
         rewrite ! 0 (λ (xs : List Val). ‵ (OwnPlace p xs)) (LL.tells P.the-type P′.the-laws p _ is) refl $
-        move ! (0 ∷ 1 ∷ 3 ∷ []) $ use3 W (raw (Part 𝓤 H A mem run .pre (to-part p)) ⊛ ‵ (OwnPlace p (low p ∷ [])) ⊛ ‵ Texts) (goes-part p (subst (λ (x : Place). Within (now b) (now o) x) (sym e) (style-within (now b) (now o) st))) $ split ! $ move ! (1 ∷ []) $ split ! $ move ! (2 ∷ []) $
+        move ! (0 ∷ 1 ∷ 3 ∷ []) $ use3 W (raw (Part 𝓤 H A mem run .pre (to-part p)) ⊛ ‵ (OwnPlace p (low p ∷ [])) ⊛ ‵ Texts) (goes-part p (subst (λ (x : Place). InItsText (now b) (now o) x) (sym e) (style-within (now b) (now o) st))) $ split ! $ move ! (1 ∷ []) $ split ! $ move ! (2 ∷ []) $
         -- [what is asked; what the place owns; what the slices own; what the state owns; room for _5; …; _4; …; _3; …; _2; …; _1; …; room for _0; …]
         calls-at ! fm (Part 𝓤 H A mem run) known-part (to-part p) (and-then ! (load ! (from ! (stop !)) (look ! 6 refl)) (and-then ! (load ! (from ! (stop !)) (look ! 10 refl)) (and-then ! (load ! (from ! (stop !)) (look ! 8 refl)) (no-more !)))) (λ u′.
         use1 W (later (some (λ (r : RefT (List ℕ)). ((‵ (flft κ q) ⊛ ‵ ftrue) ⊛ ‵ (OwnName r (u′ ∷ []))) ⊛ raw (ensured 𝓤 H A part.ended (part.clauses 𝓤 H A mem run) (κ, tt) (p, (b, (o, tt))) tt r)))) (id⊢ 𝓤 _) $ await ! tt $ pick ! (λ r.
