@@ -122,8 +122,9 @@ def check_edits():
                 old = text
             else:
                 now = edited.get(path) or (read(path) if there(path) else "")
-                if not old or now.count(old) != 1:
-                    tell(edit, f"`{old}` stands {now.count(old) if old else 'no'} times in {path}, not once")
+                times = now.count(old) if old else 0
+                if times != 1:
+                    tell(edit, f"`{old}` stands {times} times in {path}, not once")
                 edited[path], old = now.replace(old, text, 1), ""
         if not edited:
             tell(edit, "it has no pair of `old:` and `new:`")
