@@ -108,12 +108,26 @@ def check_names():
 
 
 def check_edits():
-    """Every must-fail edit is named in TRACE."""
+    """Every must-fail edit is named in TRACE, and can be made: in turn, as rt does, each `old:` stands once in its file."""
     traced = {name for _, name in quoted("docs/TRACE.md")}
     for edit in there("crates/*/must-fail/*.edit"):
-        _, crate, _, file = edit.split("/")
-        if f"{crate}!{file.removesuffix('.edit')}" not in traced:
+        _, crate, _, name = edit.split("/")
+        if f"{crate}!{name.removesuffix('.edit')}" not in traced:
             tell(edit, "docs/TRACE.md does not name it")
+        edited, path, old = {}, "", ""
+        for word, text in re.findall(r"^(file: |old: |new: ?)(.*)$", read(edit), re.M):
+            if word == "file: ":
+                path = f"crates/{crate}/{text}"
+            elif word == "old: ":
+                old = text
+            else:
+                now = edited.get(path) or (read(path) if there(path) else "")
+                times = now.count(old) if old else 0
+                if times != 1:
+                    tell(edit, f"`{old}` stands {times} times in {path}, not once")
+                edited[path], old = now.replace(old, text, 1), ""
+        if not edited:
+            tell(edit, "it has no pair of `old:` and `new:`")
 
 
 def lines(*patterns):

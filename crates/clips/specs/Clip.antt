@@ -12,7 +12,7 @@ use Rattle.refusal.specs.declared.Checked.{Checked}
 use Rattle.refusal.specs.declared.Checked.the-variants.{Good, Bad}
 use Rattle.refusal.specs.Refusal.{textGround}
 use Rattle.clips.specs.declared.Clip.{Clip}
-use Rattle.clips.specs.Part.{between, IsPart}
+use Rattle.clips.specs.Part.{IsPart}
 
 -- what no u32 is as large as
 abbrev pub tooLarge : ℕ
@@ -50,10 +50,6 @@ clipBy (Bad r) s = clip (Bad r) 1 0 0
 -- `split_clip_arg`, by places: grounds 1 and 2; beside a refusal scale 1 and an empty part
 abbrev pub clipOf : List ℕ → Clip
 clipOf s = clipBy (textGround s) s
-
--- the bytes that are handed back
-abbrev pub restOf : List ℕ → Clip → List ℕ
-restOf s c = between s (c .from) (c .to)
 
 -- 01: "hands back the rest of the argument itself": r is the rest of the text t, the caller's own bytes where they lie
 abbrev pub IsRest : RefT (List ℕ) → RefT (List ℕ) → Type 0

@@ -1,6 +1,7 @@
 -- Worked examples, by computation: a clip argument, its scale and its rest.
 use mathlib.Core.Path.{_≡_, refl}
 use mathlib.Core.List.{List, [], _∷_, map}
+use Prim.Native.Nat.{ℕ}
 use Prim.Native.String.{String}
 use Rattle.scan.specs.Scan.{bytes, span, skip, skipBack, blankAt, blankBefore}
 use Rattle.numeral.specs.Numeral.{value, wholeNumber}
@@ -8,7 +9,12 @@ use Rattle.refusal.specs.Refusal.{textGround}
 use Rattle.refusal.specs.declared.Refusal.the-variants.{NotAscii}
 use Rattle.refusal.specs.declared.Checked.the-variants.{Good, Bad}
 use Rattle.clips.specs.declared.Clip.{Clip}
-use Rattle.clips.specs.Clip.{clip, clipParts, clipOf, restOf}
+use Rattle.clips.specs.Part.{between}
+use Rattle.clips.specs.Clip.{clip, clipParts, clipOf}
+
+-- the bytes that are handed back
+abbrev restOf : List ℕ → Clip → List ℕ
+restOf s c = between s (c .from) (c .to)
 
 -- that each clip argument has its parts
 abbrev pub Splits : List (String × Clip) → Type 0

@@ -1,7 +1,7 @@
--- A numeral that is not too long has a value in reach, and what is in reach is cut or rounded to a whole number of magnitude at most 1,000,000,000.
+-- A fraction of magnitude at most 1,000,000,000 has a value in reach, and what is in reach is cut or rounded to a whole number of magnitude at most 1,000,000,000.
 use mathlib.Core.Path.{_≡_, refl, sym, subst}
 use Prim.Native.Nat.{ℕ, zero, suc, _+_, _-_, _*_, _/_, _^_, _≤_, _<_, min}
-use native.Mathlib.Nat.{le-trans, le-of-eq, le-of-lt, mul-one, mul-pos, one-le-pow, div-lt-iff-lt-mul}
+use native.Mathlib.Nat.{le-trans, le-of-eq, le-of-lt, mul-one, mul-pos, div-lt-iff-lt-mul}
 use native.Mathlib.Omega.{arith}
 use mathlib.Core.Bool.{Bool, true, false, not, cond, _&&_, _||_}
 use lib.IntN.{ℤ, pos, negℤ, natAbs}
@@ -11,7 +11,6 @@ use lib.Ieee.{Float, nan, inf, fin, Format, binary32, prec, emax, low, up, down,
 use lib.Ieee.Fits.{round-is, and-i, and-l, and-r, down-pos}
 use lib.Ieee.Order.{round-mono}
 use lib.Ieee.Nearest.{closest}
-use Rattle.decimal.specs.Decimal.{decimal}
 use Rattle.decimal.proofs.Law.{neg-round}
 use Rattle.float.specs.Float.{zero as +0, maxZero, billion, inReach, roundSize, roundAway}
 use Rattle.float.proofs.Sign.{above-cases}
@@ -88,15 +87,6 @@ fraction-in-reach s n d D h = go s
     go : (s : Bool) → T (inReach (round binary32 s n d))
     go false = both .0
     go true = subst (λ (v : Float). T (inReach v)) (neg-round binary32 n d) (both .1)
-
--- ---- numerals
-ten-pos : (n : ℕ) → 0 < 10 ^ n
-ten-pos n = one-le-pow n 10 (lit< tt)
-
-module _ (negative : Bool) (digits tens : ℕ) where
-  -- 01, Numerals: at most 9 digits before the point. `tens` is how many stand after it.
-  pub good-in-reach : digits < 10 ^ 9 * 10 ^ tens → T (inReach (decimal negative digits tens))
-  good-in-reach h = fraction-in-reach negative digits (10 ^ tens) (ten-pos tens) (le-of-lt h)
 
 -- ---- whole numbers
 pub size-in-reach : (s : Bool) (m : ℕ) (e : ℤ) → T (inReach (fin s m e)) → m * up e ≤ 1000000000 * down e

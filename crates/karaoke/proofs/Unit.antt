@@ -1,4 +1,4 @@
--- 01, Karaoke: progress is 0 up to the start, 1 from the end on, and within 0 to 1 always.
+-- 01, Karaoke: progress is 0 up to the start, and within 0 to 1 always. (1 from the end on: Passing.antt.)
 use mathlib.Core.Path.{_≡_, refl, sym, subst}
 use mathlib.Core.Bool.{true, false}
 use mathlib.Core.Logic.{⊎-elim}
@@ -86,11 +86,6 @@ unit-quotient a b h g m =
 pub up-to-start : (start end t : ℤ) → leZ t start ≡ true → progressIn start end t ≡ zero
 unfolding progressIn
 up-to-start start end t h = rw h
-
--- from the end on, where it comes after the start
-pub from-end : (start end n : ℕ) → start < end → end ≤ n → progressIn (pos start) (pos end) (pos n) ≡ one
-unfolding progressIn
-from-end start end n h g = rw (lt-leb n start (omega arith), le-leb end n g)
 
 module _ (start end : ℕ) (m : end ≤ mostMs) where
   -- at an instant from 0 on

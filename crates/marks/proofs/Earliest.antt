@@ -3,7 +3,7 @@ use mathlib.Core.Path.{_≡_, refl}
 use mathlib.Core.Bool.{Bool, true, false}
 use mathlib.Core.List.{List, [], _∷_}
 use lib.IntN.{ℤ, sucℤ}
-use lib.Signed.{leZ, _≤ℤ_, _<ℤ_, ≤ℤ-refl, <ℤ-≤ℤ-trans, clashℤ}
+use lib.Signed.{leZ, ≤ℤ-refl, <ℤ-≤ℤ-trans, clashℤ}
 use Rattle.scan.specs.Scan.{pick}
 use Rattle.tag.specs.Tag.{Tags}
 use Rattle.marks.specs.declared.Mark.{Mark}

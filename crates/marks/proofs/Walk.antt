@@ -5,7 +5,7 @@ use mathlib.Core.List.{List, [], _∷_, _++_}
 use Prim.Native.Nat.{ℕ, suc, _+_, _-_, _/_, _≤_, _<_}
 use native.Mathlib.Omega.{arith}
 use lib.IntN.{ℤ}
-use lib.Signed.{leZ, _<ℤ_}
+use lib.Signed.{leZ}
 use lib.ListN.{length, drop}
 use lib.Seq.{drop-drop}
 use Rattle.scan.specs.Scan.{pick}

@@ -25,12 +25,6 @@ pub data Between (s : List ℕ) (top i e : ℕ) : Found → Type 0 where
   nowhere : Between s top i e Nowhere
   there : (p : ℕ) → i ≤ p → p < e → Unplain s top i e → Between s top i e (At p)
 
-pub between-at : {s : List ℕ} {top i e : ℕ} {f : Found} → Between s top i e f → (p : ℕ) → f ≡ At p → (i ≤ p) × (p < e)
-between-at nowhere p q = absurd (let z : _≡_ {A = ℕ} 0 1 = cc in omega arith)
-between-at (there k l h u) p q =
-    let z : k ≡ p = cc in
-    (omega arith, omega arith)
-
 pub between-wider : {s : List ℕ} {top i j k e : ℕ} {f : Found} → i ≤ j → k ≤ e → Between s top j k f → Between s top i e f
 between-wider a b nowhere = nowhere
 between-wider a b (there p l h u) = there p (omega arith) (omega arith) (unplain-wider a b u)

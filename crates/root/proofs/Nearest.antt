@@ -234,3 +234,7 @@ nearest-root x f p =
     let (m, j, small, is) = square-on-grid x f p in
     let r = in-range x f p in
     subst (λ (v : Float). NearestRoot x v) (sym (sqrt-is x p)) (root-fits n m j r small is, g n m j r small is, has-value n m j r small is, best n m j r small is)
+
+-- so a function that answers `sqrt` promises both
+pub told : (x r : Float) → T (fits binary32 x) → r ≡ sqrt binary32 x → (r ≡ sqrt binary32 x) × (T (positive x) → NearestRoot x r)
+told x r f e = (e, λ (p : T (positive x)). subst (λ (v : Float). NearestRoot x v) (sym e) (nearest-root x f p))

@@ -88,12 +88,6 @@ present {u} {v} {n} {k} ws w f e =
     let d : drop (n + length ws) u ≡ zeros (92 - (n + k)) = rw w (further k c) in
     record { is = e; clear = record { wide = ap length e ∙ length-sets u n ws ∙ c .wide; rest = b ∙ d } }
 
-pub free : {u v ws : List ℕ} {n k : ℕ} (j : ℕ) → n + k + j ≤ 92 → Put u n k ws v → Free v (n + k) j
-free j h p = record { clear = p .clear; room = h }
-
-pub start : {u : List ℕ} {n : ℕ} (k : ℕ) → n + k ≤ 92 → Clear u n → Free u n k
-start k h c = record { clear = c; room = h }
-
 -- ---- fields joined
 
 -- words stored from i up to n

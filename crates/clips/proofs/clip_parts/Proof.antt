@@ -3,14 +3,6 @@ use Rattle.clips.proofs.Clipping.{clip-bare, clip-some, clip-large, cli
 use borrow.Author.Needs.{needs}
 use Rattle.clips.proofs.clip_parts.Statement.{statement}
 use Rattle.clips.proofs.clip_parts.Tie as tie
-use Rattle.clips.proofs.clip_parts.Reads as reads
-use Rattle.clips.proofs.clip_parts.Lts as lts
-use Rattle.clips.proofs.at_least_one.Reads as at-least-one-reads
-use Rattle.numeral.proofs.whole_number.Reads as whole-number-reads
-use Rattle.scan.proofs.past.Reads as past-reads
-use Rattle.scan.proofs.span.Reads as span-reads
-use Rattle.scan.proofs.trim_end.Reads as trim-end-reads
-use Rattle.scan.proofs.trim_start.Reads as trim-start-reads
 
 returns : tie.Need-returns
 returns c = record { is = clip-bare _ (c .before .before .trim-start .ensures .is) (sym (c .before .past .ensures .is) ∙ c .if1 .taken); order = search needs; high = search needs }

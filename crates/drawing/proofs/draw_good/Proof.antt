@@ -3,12 +3,6 @@ use Rattle.drawing.proofs.Answering.{straight-drawn, dry-refused, dry-f
 use borrow.Author.Needs.{needs}
 use Rattle.drawing.proofs.draw_good.Statement.{statement}
 use Rattle.drawing.proofs.draw_good.Tie as tie
-use Rattle.drawing.proofs.draw_good.Reads as reads
-use Rattle.drawing.proofs.draw_good.Lts as lts
-use Rattle.machine.proofs.draw.Reads as draw-reads
-use Rattle.drawing.proofs.scale_of.Reads as scale-of-reads
-use Rattle.scan.proofs.least.Reads as least-reads
-use Rattle.tokens.proofs.straight.Reads as straight-reads
 
 straight-requires : tie.Need-straight-requires
 straight-requires c κs = (good-short _ (c .before .before .before .before .pre .0), search needs)

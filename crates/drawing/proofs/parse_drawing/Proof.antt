@@ -3,11 +3,6 @@ use Rattle.drawing.proofs.Answering.{answered-text, answered-large}
 use borrow.Author.Needs.{needs}
 use Rattle.drawing.proofs.parse_drawing.Statement.{statement}
 use Rattle.drawing.proofs.parse_drawing.Tie as tie
-use Rattle.drawing.proofs.parse_drawing.Reads as reads
-use Rattle.drawing.proofs.parse_drawing.Lts as lts
-use Rattle.drawing.proofs.draw_good.Reads as draw-good-reads
-use Rattle.drawing.proofs.too_large.Reads as too-large-reads
-use Rattle.refusal.proofs.check_text.Reads as check-text-reads
 
 returns : tie.Need-returns
 returns c = answered-large _ _ _ (sym (c .before .before .before .before .check-text .ensures) ∙ c .before .before .enum-told .given .1) (c .before .if1 .taken) (c .too-large .ensures)

@@ -3,7 +3,7 @@ use Rattle.leaves.proofs.hannuvel_leaf_root.Statement.{statement}
 use Rattle.leaves.proofs.hannuvel_leaf_root.Tie as tie
 
 returns : tie.Need-returns
-returns c = rw (← c .before .before .before .before .f32-of-word .ensures, ← c .before .before .before .rooted .ensures, c .before .before .if1 .taken, c .word-of-f32 .ensures, c .before .sqrt-f32 .ensures)
+returns c = rw (← c .before .before .before .before .f32-of-word .ensures, ← c .before .before .before .rooted .ensures, c .before .before .if1 .taken, c .word-of-f32 .ensures, c .before .sqrt-f32 .ensures .0)
 
 returns-2 : tie.Need-returns-2
 returns-2 c = rw (← c .before .before .f32-of-word .ensures, ← c .before .rooted .ensures, c .if1 .left)

@@ -48,7 +48,7 @@ loop-again : tie.Need-loop-again Inv-loop μ-loop
 loop-again c =
     let w = c .before .before .before .before in
     let l = w .before in
-    (roots-step (l .loop .d) _ (l .loop .r) (l .loop .p) _ _ (left w) (c .before .sqrt-f32 .ensures) (c .times-digit .ensures) ∙ l .loop .inv .0, omega arith)
+    (roots-step (l .loop .d) _ (l .loop .r) (l .loop .p) _ _ (left w) (c .before .sqrt-f32 .ensures .0) (c .times-digit .ensures) ∙ l .loop .inv .0, omega arith)
 
 returns-2 : tie.Need-returns-2 Inv-loop μ-loop
 returns-2 c = sym (roots-end (c .before .loop .d) _ (c .before .loop .r) (c .before .loop .p) (c .before .loop .inv .1) (c .loop-test .left)) ∙ c .before .loop .inv .0

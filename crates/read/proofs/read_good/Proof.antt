@@ -6,11 +6,6 @@ use Rattle.read.proofs.Places.{straight-read}
 use borrow.Author.Needs.{needs}
 use Rattle.read.proofs.read_good.Statement.{statement}
 use Rattle.read.proofs.read_good.Tie as tie
-use Rattle.read.proofs.read_good.Reads as reads
-use Rattle.read.proofs.read_good.Lts as lts
-use Rattle.read.proofs.check_read.Reads as check-read-reads
-use Rattle.read.proofs.parse_overrides_depth.Reads as parse-overrides-depth-reads
-use Rattle.survey.proofs.straight.Reads as straight-reads
 
 -- src/lib.rt:420:41
 -- src/lib.rt:420:8

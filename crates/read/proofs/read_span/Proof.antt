@@ -3,10 +3,6 @@ use Rattle.read.proofs.Answer.{text-refused}
 use borrow.Author.Needs.{needs}
 use Rattle.read.proofs.read_span.Statement.{statement}
 use Rattle.read.proofs.read_span.Tie as tie
-use Rattle.read.proofs.read_span.Reads as reads
-use Rattle.read.proofs.read_span.Lts as lts
-use Rattle.read.proofs.read_good.Reads as read-good-reads
-use Rattle.refusal.proofs.check_text.Reads as check-text-reads
 
 -- src/lib.rt:443:35
 read-good-requires : tie.Need-read-good-requires

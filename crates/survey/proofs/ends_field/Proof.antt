@@ -3,11 +3,6 @@ use Rattle.survey.specs.Survey.{endsField}
 use borrow.Author.Needs.{needs}
 use Rattle.survey.proofs.ends_field.Statement.{statement}
 use Rattle.survey.proofs.ends_field.Tie as tie
-use Rattle.survey.proofs.ends_field.Reads as reads
-use Rattle.survey.proofs.ends_field.Lts as lts
-use Rattle.scan.proofs.past.Reads as past-reads
-use Rattle.scan.proofs.span.Reads as span-reads
-use Rattle.survey.proofs.is_stop.Reads as is-stop-reads
 
 returns : tie.Need-returns
 unfolding endsField

@@ -4,9 +4,6 @@ use Rattle.survey.proofs.Laws.{slashes-most}
 use borrow.Author.Needs.{needs}
 use Rattle.survey.proofs.few_slashes.Statement.{statement}
 use Rattle.survey.proofs.few_slashes.Tie as tie
-use Rattle.survey.proofs.few_slashes.Reads as reads
-use Rattle.survey.proofs.few_slashes.Lts as lts
-use Rattle.survey.proofs.slashes.Reads as slashes-reads
 
 returns : tie.Need-returns
 returns c h = le-trans (slashes-most (c .before .before .args .text .now) _ _) (c .if1 .taken)

@@ -8,10 +8,6 @@ use borrow.Author.Needs.{needs}
 use Rattle.survey.specs.Survey.{Exponent, endsField}
 use Rattle.survey.proofs.harmless.Statement.{statement}
 use Rattle.survey.proofs.harmless.Tie as tie
-use Rattle.survey.proofs.harmless.Reads as reads
-use Rattle.survey.proofs.harmless.Lts as lts
-use Rattle.survey.proofs.ends_field.Reads as ends-field-reads
-use Rattle.survey.proofs.is_exponent.Reads as is-exponent-reads
 
 abbrev Inv-loop : tie.InvT-loop
 Inv-loop text from to i₀ i = (from ≤ i) × (i ≤ to) × ((j : ℕ) → j < i → from ≤ j → Exponent text j → endsField text (j + 1) to ≡ true → ⊥)

@@ -3,8 +3,6 @@ use borrow.Author.Needs.{needs}
 use Rattle.survey.specs.Survey.{isExponent}
 use Rattle.survey.proofs.is_exponent.Statement.{statement}
 use Rattle.survey.proofs.is_exponent.Tie as tie
-use Rattle.survey.proofs.is_exponent.Reads as reads
-use Rattle.survey.proofs.is_exponent.Lts as lts
 
 returns : tie.Need-returns
 unfolding isExponent

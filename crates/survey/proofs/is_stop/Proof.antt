@@ -3,10 +3,6 @@ use Rattle.survey.specs.Survey.{isStop}
 use borrow.Author.Needs.{needs}
 use Rattle.survey.proofs.is_stop.Statement.{statement}
 use Rattle.survey.proofs.is_stop.Tie as tie
-use Rattle.survey.proofs.is_stop.Reads as reads
-use Rattle.survey.proofs.is_stop.Lts as lts
-use Rattle.scan.proofs.has.Reads as has-reads
-use Rattle.scan.proofs.is_blank.Reads as is-blank-reads
 
 returns : tie.Need-returns
 unfolding isStop

@@ -1,5 +1,5 @@
 use mathlib.Core.Path.{sym, _∙_}
-use mathlib.Core.Bool.{true, true≢false}
+use mathlib.Core.Bool.{true≢false}
 use mathlib.Core.Logic.{⊎-elim}
 use Prim.Native.Nat.{ℕ, _+_, _-_, _≤_, _<_}
 use native.Mathlib.Omega.{arith}
@@ -9,10 +9,6 @@ use Rattle.survey.specs.Survey.{Ten}
 use Rattle.survey.proofs.Laws.{ten-around}
 use Rattle.survey.proofs.no_ten.Statement.{statement}
 use Rattle.survey.proofs.no_ten.Tie as tie
-use Rattle.survey.proofs.no_ten.Reads as reads
-use Rattle.survey.proofs.no_ten.Lts as lts
-use Rattle.scan.proofs.has.Reads as has-reads
-use Rattle.survey.proofs.run_around.Reads as run-around-reads
 
 abbrev Inv-loop : tie.InvT-loop
 Inv-loop text from to i₀ i = (from ≤ i) × (i ≤ to) × ((j : ℕ) → from ≤ j → j < i → j + 10 ≤ to → Ten text j → ⊥)

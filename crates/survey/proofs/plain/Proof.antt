@@ -4,10 +4,6 @@ use Rattle.survey.proofs.Laws.{plain-is}
 use borrow.Author.Needs.{needs}
 use Rattle.survey.proofs.plain.Statement.{statement}
 use Rattle.survey.proofs.plain.Tie as tie
-use Rattle.survey.proofs.plain.Reads as reads
-use Rattle.survey.proofs.plain.Lts as lts
-use Rattle.survey.proofs.harmless.Reads as harmless-reads
-use Rattle.survey.proofs.no_ten.Reads as no-ten-reads
 
 returns : tie.Need-returns
 returns c h = plain-is _ _ _ (c .harmless .ensures h) (c .before .before .no-ten .ensures (c .before .if1 .taken))

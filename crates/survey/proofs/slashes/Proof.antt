@@ -7,8 +7,6 @@ use Rattle.survey.specs.Survey.{slashesTo}
 use Rattle.survey.proofs.Laws.{slashes-end, slashes-one, slashes-none}
 use Rattle.survey.proofs.slashes.Statement.{statement}
 use Rattle.survey.proofs.slashes.Tie as tie
-use Rattle.survey.proofs.slashes.Reads as reads
-use Rattle.survey.proofs.slashes.Lts as lts
 
 abbrev Inv-loop : tie.InvT-loop
 Inv-loop text from to n₀ i₀ n i = (from ≤ i) × (i ≤ to) × (n ≤ i - from) × (slashesTo text from to ≡ n + slashesTo text i to)

@@ -3,10 +3,6 @@ use mathlib.Core.Bool.{true≢false}
 use borrow.Author.Needs.{needs}
 use Rattle.survey.proofs.straight.Statement.{statement}
 use Rattle.survey.proofs.straight.Tie as tie
-use Rattle.survey.proofs.straight.Reads as reads
-use Rattle.survey.proofs.straight.Lts as lts
-use Rattle.survey.proofs.few_slashes.Reads as few-slashes-reads
-use Rattle.survey.proofs.plain.Reads as plain-reads
 
 returns : tie.Need-returns
 returns c h = record { plain = c .plain .ensures h; few = c .before .before .few-slashes .ensures (c .before .if1 .taken) }

@@ -4,9 +4,6 @@ use borrow.Author.Tests.{ne-eqb}
 use borrow.Author.Needs.{needs}
 use Rattle.tokens.proofs.letter_weight.Statement.{statement}
 use Rattle.tokens.proofs.letter_weight.Tie as tie
-use Rattle.tokens.proofs.letter_weight.Reads as reads
-use Rattle.tokens.proofs.letter_weight.Lts as lts
-use Rattle.scan.proofs.lower.Reads as lower-reads
 
 returns : tie.Need-returns
 returns c = (rw (sym (c .before .lower .ensures) ∙ c .match .keys1), omega arith)

@@ -8,14 +8,6 @@ use Rattle.tokens.specs.Inner.{Light}
 use Rattle.tokens.proofs.Looking.{light-end, light-letter, light-other}
 use Rattle.tokens.proofs.light.Statement.{statement}
 use Rattle.tokens.proofs.light.Tie as tie
-use Rattle.tokens.proofs.light.Reads as reads
-use Rattle.tokens.proofs.light.Lts as lts
-use Rattle.scan.proofs.trim_start.Reads as trim-start-reads
-use Rattle.tokens.proofs.letter_weight.Reads as letter-weight-reads
-use Rattle.tokens.proofs.one_letter.Reads as one-letter-reads
-use Rattle.tokens.proofs.rate_of.Reads as rate-of-reads
-use Rattle.tokens.proofs.token_end.Reads as token-end-reads
-use Rattle.tokens.proofs.wordy.Reads as wordy-reads
 
 abbrev Inv-loop : tie.InvT-loop
 Inv-loop text most i₀ rate₀ w₀ i rate w = (i ≤ length text) × (rate ≤ 3) × (w ≤ most) × (Light text i rate w most → Light text 0 3 0 most)

@@ -3,9 +3,6 @@ use borrow.Author.Tests.{eq-eqb, ne-eqb}
 use borrow.Author.Needs.{needs}
 use Rattle.tokens.proofs.rate_of.Statement.{statement}
 use Rattle.tokens.proofs.rate_of.Tie as tie
-use Rattle.tokens.proofs.rate_of.Reads as reads
-use Rattle.tokens.proofs.rate_of.Lts as lts
-use Rattle.scan.proofs.lower.Reads as lower-reads
 
 returns : tie.Need-returns
 returns c = (rw (← c .before .lower .ensures, eq-eqb _ 98 (c .if1 .taken)), omega arith)

@@ -4,10 +4,6 @@ use native.Mathlib.Omega.{arith}
 use borrow.Author.Needs.{needs}
 use Rattle.tokens.proofs.straight.Statement.{statement}
 use Rattle.tokens.proofs.straight.Tie as tie
-use Rattle.tokens.proofs.straight.Reads as reads
-use Rattle.tokens.proofs.straight.Lts as lts
-use Rattle.survey.proofs.plain.Reads as plain-reads
-use Rattle.tokens.proofs.light.Reads as light-reads
 
 returns : tie.Need-returns
 returns c h =

@@ -2,9 +2,6 @@ use Rattle.tokens.proofs.Looking.{special-letter}
 use borrow.Author.Needs.{needs}
 use Rattle.tokens.proofs.wordy.Statement.{statement}
 use Rattle.tokens.proofs.wordy.Tie as tie
-use Rattle.tokens.proofs.wordy.Reads as reads
-use Rattle.tokens.proofs.wordy.Lts as lts
-use Rattle.scan.proofs.past.Reads as past-reads
 
 returns : tie.Need-returns
 returns c h = rw (c .past2 .ensures .is) (special-letter _ _ _ _ (c .before .past .ensures .is) h)
