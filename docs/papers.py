@@ -185,6 +185,14 @@ def check_map():
             tell("README.md", f'the table "elsewhere" does not name {paper}')
 
 
+def check_claim():
+    """The page that everybody must read: no line of it passes 140 columns."""
+    page = "crates/animate/specs/Claim.antt"
+    for n, line in enumerate(read(page).splitlines(), 1):
+        if len(line) > 140:
+            tell(f"{page}:{n}", f"{len(line)} columns, more than 140")
+
+
 def check_files():
     """A path is that of a file or folder, or the end of one. NAME in it stands for any name."""
     paths = "\n".join(f"/{p}\n/{p}/" for top in ("*", ".ci") for p in there(top) + there(f"{top}/**/*"))
@@ -210,7 +218,7 @@ def check_citations():
 
 if sys.argv[1:] not in ([], ["--write"]):
     sys.exit(__doc__)
-for check in (check_names, check_edits, check_counts, check_map, check_files, check_citations):
+for check in (check_names, check_edits, check_counts, check_map, check_claim, check_files, check_citations):
     check()
 print("\n".join(wrong) or "papers.py: names, edits, counts, files and citations are as stated")
 sys.exit(bool(wrong))

@@ -39,8 +39,8 @@ abbrev pub readSpan : Bool → List ℕ → Span
 readSpan true s = lessBraces s
 readSpan false s = wholeText s
 
--- the block's tags: "A tag is kept if it stands, at any depth, in what `parse_overrides` gives". Of their number, `count`, "A \t counts as one
--- tag and each tag inside it as one more".
+-- the block's tags: "A tag is kept if it stands, at any depth, in what `parse_overrides` gives". Of their number, `count`: "A \t counts
+-- as one tag and each tag inside it as one more".
 abbrev pub blockTags : List ℕ → Span → Tags
 blockTags s x = blockOf s x .tags
 
