@@ -28,6 +28,8 @@ docs/citations.py || fail "docs/citations.py ended with status $?"
 # ---- rt ci. It removes target/, so its output is kept elsewhere until it has ended.
 kept=$(mktemp)
 trap 'rm -f "$kept"' EXIT
+# rt waits for all that it runs at once before it goes on, so that of two at a time one core is often idle.
+export RT_JOBS=${RT_JOBS:-4}
 began=$SECONDS
 set +e
 rt ci 2>&1 | tee "$kept" | sed -u '$d'
