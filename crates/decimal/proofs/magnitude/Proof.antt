@@ -14,22 +14,28 @@ use Rattle.decimal.proofs.magnitude.Tie as tie
 one-at-least : (n : ℕ) → 0 < 10 ^ n
 one-at-least n = one-le-pow n 10 (lit< tt)
 
+-- a power of ten that is a float
+in-float : (n : ℕ) → n < 8 → 10 ^ n < 16777216
+in-float n h = omega (arith, pow-le-pow-right {n = 10} (lit< tt) {i = n} {j = 7} (omega arith))
+
 int-to-float-result : tie.Need-int-to-float-result
 unfolding inFloat
-int-to-float-result c = le→leb (c .before .before .before .before .args .digits) 16777216 (omega arith)
+int-to-float-result c = le→leb (c .before .before .before .args .digits) 16777216 (omega arith)
 
 int-to-float-result-2 : tie.Need-int-to-float-result-2
 unfolding inFloat
-int-to-float-result-2 c = le→leb (c .before .before .before .before .ten-to .result) 16777216 (omega arith)
+int-to-float-result-2 c =
+    let p = c .before .ten-to in
+    le→leb (p .result) 16777216 (omega (arith, p .ensures, in-float (c .before .before .before .before .before .args .tens) (omega arith)))
 
 returns : tie.Need-returns
 returns c =
     let a = c .before .before .before .before .before .args in
-    let e = c .before .before .before .before .ten-to .ensures in
-    quotient (a .digits) _ (omega arith) (omega arith) (rw e (one-at-least (a .tens))) ∙ ap (λ (x : ℕ). round binary32 false (a .digits) x) e
+    let e = c .before .ten-to .ensures in
+    quotient (a .digits) _ (omega arith) (rw e (in-float (a .tens) (omega arith))) (rw e (one-at-least (a .tens))) ∙ ap (λ (x : ℕ). round binary32 false (a .digits) x) e
 
 returns-2 : tie.Need-returns-2
-returns-2 c = let t = c .before .before .before .args .tens in cc (plus-zero, round-zero false (10 ^ t) (one-at-least t))
+returns-2 c = let t = c .before .before .args .tens in cc (plus-zero, round-zero false (10 ^ t) (one-at-least t))
 
 ratio-requires : tie.Need-ratio-requires
 ratio-requires c κs =
@@ -37,7 +43,7 @@ ratio-requires c κs =
     let h : n ≤ 9 = c .before .before .before .pre .1 in
     let t : 10 ^ n ≤ 10 ^ 9 = pow-le-pow-right (lit< tt) h in
     let z : 0 < 10 ^ n = one-at-least n in
-    (omega (arith, c .if3 .left), omega arith, omega (arith, c .before .before .ten-to .ensures), omega (arith, c .before .before .ten-to .ensures))
+    (omega (arith, c .before .if3 .left), omega arith, omega (arith, c .ten-to2 .ensures), omega (arith, c .ten-to2 .ensures))
 
 returns-3 : tie.Need-returns-3
 returns-3 c = cc
@@ -46,4 +52,4 @@ pub magnitude-spec : {M : Type 1} → statement M
 magnitude-spec =
     tie.close
     (tie.spec
-    (λ c κs. search needs) int-to-float-result int-to-float-result-2 returns returns-2 ratio-requires returns-3)
+    int-to-float-result (λ c κs. search needs) int-to-float-result-2 returns returns-2 (λ c κs. search needs) ratio-requires returns-3)
