@@ -1,4 +1,4 @@
--- The table of `ten_to`, and that its entries are the powers of ten.
+-- 02, N3: the table of `ten_to`, and that its entries are the powers of ten.
 use mathlib.Core.Path.{_≡_, refl, ap, _∙_}
 use mathlib.Core.List.{List, [], _∷_}
 use Prim.Native.Nat.{ℕ, zero, suc, _+_, _^_, _<_, _≤_}
