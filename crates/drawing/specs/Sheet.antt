@@ -51,6 +51,9 @@ n5 = 0x40A00000
 abbrev n6 : ℕ
 n6 = 0x40C00000
 
+abbrev n100 : ℕ
+n100 = 0x42C80000
+
 -- that each drawing, at its exponent, has its commands
 abbrev pub Draws : List (String × ℕ × List PathCommand) → Type 0
 Draws rows = map (λ (r : String × ℕ × List PathCommand). drawing (bytes (r .0)) (r .1)) rows ≡ map (λ (r : String × ℕ × List PathCommand). r .2) rows
@@ -68,6 +71,8 @@ pub paths : Draws (
     ("m 0 0 1 2 n 2 2 4 4", 2, move 0 0 ∷ line half n1 ∷ move n1 n1 ∷ line n2 n2 ∷ []) ∷
     -- c closes, and what is behind it is passed over; an unknown letter is passed over up to the next one
     ("c 1 1 x 2 2 3 ? l 4 4 5", 0, close ∷ line n4 n4 ∷ []) ∷
+    -- 02, N4: a numeral with an exponent
+    ("l 1e2 0", 1, line n100 0 ∷ []) ∷
     -- m without a point changes nothing
     ("l 1 1 m 5 ? 2 2", 1, line n1 n1 ∷ line n2 n2 ∷ []) ∷
     -- p continues a spline, P draws lines
@@ -102,9 +107,9 @@ AnswersIn rows = map (λ (r : (List ℕ × ℕ × ℕ) × Answer). answerIn (r .
 
 pub two-faults : AnswersIn (
     ((replicate 12289 128, 33, 0), Refused TextTooLong) ∷
-    ((bytes "m 1 1e5" ++ (128 ∷ []), 33, 0), Refused (NotAscii 7)) ∷
-    ((bytes "m 1 2 x 1e5 c", 33, 0), Refused (NumeralTooLong 8)) ∷
-    ((bytes "m 1 2 1e5", 1, 0), Refused (NumeralTooLong 6)) ∷
+    ((bytes "m 1 1e9" ++ (128 ∷ []), 33, 0), Refused (NotAscii 7)) ∷
+    ((bytes "m 1 2 x 1e9 c", 33, 0), Refused (NumeralTooLong 8)) ∷
+    ((bytes "m 1 2 1e9", 1, 0), Refused (NumeralTooLong 6)) ∷
     ((bytes "m 1 2 c", 33, 0), Refused ScaleTooLarge) ∷
     [])
 unfolding round toBits ofInt add mul div sum span skip skipBack blankAt blankBefore value splitAt exponentAt floatOf f32Of spells special tokenOf wordEnd tokens untilLetter scaleOf scaled weighed commandOf letterTurn walk textGround tokensGround ground answer

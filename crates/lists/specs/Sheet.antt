@@ -28,8 +28,9 @@ pub floats : Holds false (
     ("1,,2", holds false 3 (0x3F800000 ∷ 0 ∷ 0x40000000 ∷ 0 ∷ 0 ∷ 0 ∷ 0 ∷ []) Nowhere) ∷
     ("1,", holds false 2 (0x3F800000 ∷ 0 ∷ 0 ∷ 0 ∷ 0 ∷ 0 ∷ 0 ∷ []) Nowhere) ∷
     ("", holds false 1 (0 ∷ 0 ∷ 0 ∷ 0 ∷ 0 ∷ 0 ∷ 0 ∷ []) Nowhere) ∷
-    ("x,1e5", holds false 2 (0 ∷ 0 ∷ 0 ∷ 0 ∷ 0 ∷ 0 ∷ 0 ∷ []) (At 2)) ∷
-    ("1, 1e5,1e6", holds false 3 (0x3F800000 ∷ 0 ∷ 0 ∷ 0 ∷ 0 ∷ 0 ∷ 0 ∷ []) (At 3)) ∷
+    ("x,1e9", holds false 2 (0 ∷ 0 ∷ 0 ∷ 0 ∷ 0 ∷ 0 ∷ 0 ∷ []) (At 2)) ∷
+    ("1, 1e9,1e10", holds false 3 (0x3F800000 ∷ 0 ∷ 0 ∷ 0 ∷ 0 ∷ 0 ∷ 0 ∷ []) (At 3)) ∷
+    ("1e2,2.5E-3", holds true 2 (0x42C80000 ∷ 0x3B23D70A ∷ 0 ∷ 0 ∷ 0 ∷ 0 ∷ 0 ∷ []) Nowhere) ∷
     ("0,-0,.5,1.,2,3,4,8", holds true 8 (0 ∷ 0x80000000 ∷ 0x3F000000 ∷ 0x3F800000 ∷ 0x40000000 ∷ 0x40400000 ∷ 0x40800000 ∷ []) Nowhere) ∷
     [])
 unfolding round toBits span skip skipBack blankAt blankBefore value splitAt exponentAt floatOf f32Of split items allWords filled firstLong

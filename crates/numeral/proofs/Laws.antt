@@ -9,7 +9,9 @@ use native.Mathlib.Numerals.{add-one}
 use native.Mathlib.Nat.{le-refl, le-trans, le-mul-of-pos-right, min-eq-left, min-eq-right, min-le-right, mul-le-mul-right, pow-zero, pow-suc, pow-succ', pow-le-pow-right, mul-assoc, add-mul, one-mul, lt-of-lt-of-le, lt-of-le-of-lt, add-le-add, mul-le-mul, mul-le-mul-left}
 use lib.ListN.{getD}
 use lib.Dec.{ltb, leb, lit<}
-use lib.IntN.{pos, negℤ}
+use lib.IntN.{ℤ, pos, negℤ}
+use lib.Ieee.{Float}
+use lib.Pow.{pow-add}
 use borrow.Author.Tests.{eq-eqb, ne-eqb, lt-ltb, le-ltb, le-leb, lt-leb, ltb-true}
 use Rattle.scan.specs.Scan.{pick, digitOf, inClass, span, spanTo, past}
 use Rattle.scan.specs.declared.Class.the-variants.{Digit}
@@ -17,7 +19,7 @@ use Rattle.scan.proofs.Laws.{le-or-lt, more, none, span-low, digit-below, digit
 use Rattle.float.specs.Float.{toWord}
 use Rattle.numeral.specs.declared.Numeral.the-variants.{No, Word}
 use Rattle.numeral.specs.declared.Decimal.{Decimal}
-use Rattle.numeral.specs.Numeral.{isDigit, isSign, isMinus, isPlus, value, most, wholeNumber, wordOfI32, I32, i32Of, upTo, hexAt, splitAt, exponentAt, F32, floatOf, f32Of}
+use Rattle.numeral.specs.Numeral.{isDigit, isSign, isMinus, isPlus, value, most, wholeNumber, wordOfI32, I32, i32Of, upTo, hexAt, splitAt, exponentAt, F32, digitsOf, before, behind, floatOf, limited, exponentStart, exponentOf, withExponent, endsAt, f32Of}
 
 -- a digit's value, or 16
 pub digit-most : (b : ℕ) → digitOf b ≤ 16
@@ -48,7 +50,7 @@ module _ (radix : ℕ) (s : List ℕ) where
   value-go i e a h = rw (more i e h)
 
   -- more digits make no less
-  value-grows : 0 < radix → (n i a : ℕ) → a ≤ value radix s n i a
+  pub value-grows : 0 < radix → (n i a : ℕ) → a ≤ value radix s n i a
   unfolding value
   value-grows r zero i a = le-refl a
   value-grows r (suc n) i a =
@@ -159,56 +161,77 @@ module _ (s : List ℕ) (a b i j v : ℕ) (p : i ≡ past isSign s a b) (m : j �
       let k : v ≤ wholeNumber 10 s i b = rw q (min-le-right most (wholeNumber 10 s i b)) in
       rw (← p, ← m, ne-eqb j a h, lt-leb (wholeNumber 10 s i b) 2147483648 (lt-of-lt-of-le l k))
 
--- a numeral by its digits
+-- a numeral by the digits on both sides of its point
+module _ (a : ℕ) (d : Decimal) (x : ℤ) (y : Float) where
+  pub limit-before : 9 < before (d .whole - d .from) x → F32.tooLong a ≡ limited a d x y
+  limit-before k = rw (lt-leb _ _ k)
+
+  module _ (k : before (d .whole - d .from) x ≤ 9) where
+    pub limit-behind : 9 < behind (d .end - d .fraction) x → F32.tooLong a ≡ limited a d x y
+    limit-behind l = rw (le-leb _ _ k, lt-leb _ _ l)
+
+    pub limit-number : behind (d .end - d .fraction) x ≤ 9 → F32.number y ≡ limited a d x y
+    limit-number l = rw (le-leb _ _ k, le-leb _ _ l)
+
+-- no exponent shifts by 0
+module _ (s : List ℕ) (i b : ℕ) (l : b ≤ i) where
+  pub no-exponent-start : exponentStart s i b ≡ i
+  no-exponent-start = rw (le-ltb i b l, le-ltb i b l)
+
+  pub no-exponent : exponentOf s i b ≡ pos 0
+  no-exponent = rw (no-exponent-start, le-ltb i b l, le-ltb i b l, le-ltb i i (le-refl i), value-end 10 s i b 0 l)
+
+no-exponent-says : (s : List ℕ) (a b : ℕ) (d : Decimal) → b ≤ d .end → (y : ℤ → Float) → limited a d (pos 0) (y (pos 0)) ≡ withExponent s a b d y
+no-exponent-says s a b d l y =
+    let z : b - d .end ≡ 0 = omega arith in
+    rw (no-exponent s (d .end) b l, no-exponent-start s (d .end) b l, z)
+
+-- a numeral by its text
 module _ (s : List ℕ) (a b : ℕ) (d : Decimal) (q : d ≡ splitAt s a b) where
   pub f32-empty : d .whole - d .from + (d .end - d .fraction) ≡ 0 → F32.none ≡ f32Of s a b
   unfolding f32Of
   f32-empty h = rw (← q, eq-eqb _ _ h)
 
   module _ (h : ¬ (d .whole - d .from + (d .end - d .fraction) ≡ 0)) where
-    pub f32-exponent : d .end < b → exponentAt s (d .end) b ≡ true → F32.tooLong a ≡ f32Of s a b
+    pub f32-rest : endsAt s (d .end) b ≡ false → F32.none ≡ f32Of s a b
     unfolding f32Of
-    f32-exponent l e = rw (← q, ne-eqb _ _ h, lt-ltb _ _ l, e)
+    f32-rest e = rw (← q, ne-eqb _ _ h, e)
 
-    pub f32-rest : d .end < b → exponentAt s (d .end) b ≡ false → F32.none ≡ f32Of s a b
+    pub f32-says : endsAt s (d .end) b ≡ true → withExponent s a b d (floatOf s a b d) ≡ f32Of s a b
     unfolding f32Of
-    f32-rest l e = rw (← q, ne-eqb _ _ h, lt-ltb _ _ l, e)
+    f32-says e = rw (← q, ne-eqb _ _ h, e)
 
-    pub f32-long : b ≤ d .end → 9 < d .whole - d .from → F32.tooLong a ≡ f32Of s a b
-    unfolding f32Of
-    f32-long l k = rw (← q, ne-eqb _ _ h, le-ltb _ _ l, lt-leb _ _ k)
+    -- with nothing behind its digits
+    module _ (l : b ≤ d .end) where
+      pub f32-plain : limited a d (pos 0) (floatOf s a b d (pos 0)) ≡ f32Of s a b
+      f32-plain = no-exponent-says s a b d l (floatOf s a b d) ∙ f32-says (rw (le-ltb _ _ l))
 
-    module _ (l : b ≤ d .end) (k : d .whole - d .from ≤ 9) where
-      pub f32-long-fraction : 9 < d .end - d .fraction → F32.tooLong a ≡ f32Of s a b
-      unfolding f32Of
-      f32-long-fraction o = rw (← q, ne-eqb _ _ h, le-ltb _ _ l, le-leb _ _ k, lt-leb _ _ o)
+      pub f32-long : 9 < d .whole - d .from → F32.tooLong a ≡ f32Of s a b
+      f32-long k = limit-before a d (pos 0) _ (omega arith) ∙ f32-plain
 
-      pub f32-number : d .end - d .fraction ≤ 9 → F32.number (floatOf s a b d) ≡ f32Of s a b
-      unfolding f32Of
-      f32-number o = rw (← q, ne-eqb _ _ h, le-ltb _ _ l, le-leb _ _ k, le-leb _ _ o)
+      module _ (k : d .whole - d .from ≤ 9) where
+        pub f32-long-fraction : 9 < d .end - d .fraction → F32.tooLong a ≡ f32Of s a b
+        f32-long-fraction o = limit-behind a d (pos 0) _ (omega arith) (omega arith) ∙ f32-plain
 
--- the number that the digits of a numeral write
-abbrev pub digitsOf : List ℕ → Decimal → ℕ
-digitsOf s d = value 10 s (d .end - d .fraction) (d .fraction) (value 10 s (d .whole - d .from) (d .from) 0)
+        pub f32-number : d .end - d .fraction ≤ 9 → F32.number (floatOf s a b d (pos 0)) ≡ f32Of s a b
+        f32-number o = limit-number a d (pos 0) _ (omega arith) (omega arith) ∙ f32-plain
 
--- with at most nine digits on each side of the point
-module _ (s : List ℕ) (a b : ℕ) (d : Decimal) (q : d ≡ splitAt s a b) (n : d .whole - d .from ≤ 9) (m : d .end - d .fraction ≤ 9) where
-  whole-is : d .whole ≡ spanTo isDigit s (d .from) b
+-- so many digits write less than ten to that power
+module _ (s : List ℕ) (a b : ℕ) (d : Decimal) (q : d ≡ splitAt s a b) where
+  pub whole-is : d .whole ≡ spanTo isDigit s (d .from) b
   unfolding splitAt
   whole-is = rw q
 
-  end-is : d .end ≡ spanTo isDigit s (d .fraction) b
+  pub end-is : d .end ≡ spanTo isDigit s (d .fraction) b
   unfolding splitAt
   end-is = rw q
 
-  whole-below : value 10 s (d .whole - d .from) (d .from) 0 < 1000000000
-  whole-below = lt-of-lt-of-le (value-below 10 s (lit< tt) (b - d .from) (d .from) 0 (d .whole) whole-is) (rw (one-mul (10 ^ (d .whole - d .from))) (pow-le-pow-right (lit< tt) n))
-
-  pub digits-below : digitsOf s d < 1000000000 * 10 ^ (d .end - d .fraction)
-  digits-below = lt-of-lt-of-le (value-below 10 s (lit< tt) (b - d .fraction) (d .fraction) (value 10 s (d .whole - d .from) (d .from) 0) (d .end) end-is) (mul-le-mul-right (10 ^ (d .end - d .fraction)) (rw (add-one (value 10 s (d .whole - d .from) (d .from) 0)) whole-below))
-
-  pub digits-small : digitsOf s d < most
-  digits-small = lt-of-lt-of-le digits-below (mul-le-mul-left 1000000000 (pow-le-pow-right (lit< tt) m))
+  pub digits-below : digitsOf s d < 10 ^ (d .whole - d .from + (d .end - d .fraction))
+  digits-below =
+      let w = value 10 s (d .whole - d .from) (d .from) 0 in
+      let h : w < 10 ^ (d .whole - d .from) = rw (one-mul (10 ^ (d .whole - d .from))) at (value-below 10 s (lit< tt) (b - d .from) (d .from) 0 (d .whole) whole-is) in
+      lt-of-lt-of-le (value-below 10 s (lit< tt) (b - d .fraction) (d .fraction) w (d .end) end-is)
+      (rw (pow-add 10 (d .whole - d .from) (d .end - d .fraction)) (mul-le-mul-right (10 ^ (d .end - d .fraction)) (rw (add-one w) h)))
 
 -- what is no decimal digit
 pub no-digit-below : (b : ℕ) → b < 48 → isDigit b ≡ false

@@ -1,2 +1,4 @@
 pub mod Laws
 pub mod Reach
+pub mod Exponent
+pub mod SpelledOut

@@ -1,3 +1,4 @@
 pub mod Numeral
+pub mod Spelled
 pub mod Inner
 pub mod Sheet

@@ -1,10 +1,10 @@
 -- Numbers as text writes them. 01, Numerals.
 use mathlib.Core.List.{List}
-use mathlib.Core.Bool.{Bool, false}
+use mathlib.Core.Bool.{Bool, true, false}
 use Prim.Native.Nat.{ℕ, zero, suc, _+_, _-_, _*_, _^_}
 use lib.ListN.{getD}
 use lib.Dec.{ltb, leb, eqb}
-use lib.IntN.{ℤ, pos, negℤ}
+use lib.IntN.{ℤ, pos, negsuc, negℤ}
 use lib.Ieee.{Float, binary32, round, toBits}
 use Rattle.scan.specs.Scan.{pick, digitOf, inClass, spanTo, past, trimStart, trimEnd}
 use Rattle.scan.specs.declared.Class.the-variants.{Digit, Is, Either}
@@ -101,26 +101,98 @@ wordOfF32 none = No
 wordOfF32 (tooLong p) = TooLong p
 wordOfF32 (number x) = Word (toBits binary32 x)
 
--- the f32 nearest to what the digits at d say, ties to even
-unfoldable pub floatOf : List ℕ → ℕ → ℕ → Decimal → Float
-floatOf s a b d =
-    round binary32
-    (ltb a (past isMinus s a b))
-    (value 10 s (d .end - d .fraction) (d .fraction) (value 10 s (d .whole - d .from) (d .from) 0))
-    (10 ^ (d .end - d .fraction))
+-- ---- where the point stands
+
+-- how many digits stand at d
+abbrev pub digitCount : Decimal → ℕ
+digitCount d = d .whole - d .from + (d .end - d .fraction)
+
+-- the number that the digits at d write, the point left out
+abbrev pub digitsOf : List ℕ → Decimal → ℕ
+digitsOf s d = value 10 s (d .end - d .fraction) (d .fraction) (value 10 s (d .whole - d .from) (d .from) 0)
+
+-- 02, N4: "written out with the point shifted", by x places to the right: of w digits before the point and f behind it, so many stand
+-- there then. Zeros that the shift puts in count like those of the text.
+abbrev pub before : ℕ → ℤ → ℕ
+before w (pos n) = w + n
+before w (negsuc n) = w - suc n
+
+abbrev pub behind : ℕ → ℤ → ℕ
+behind f (pos n) = f - n
+behind f (negsuc n) = f + suc n
+
+-- the zeros that the shift puts behind the last digit, before the point
+abbrev pub zeros : ℕ → ℤ → ℕ
+zeros f (pos n) = n - f
+zeros f (negsuc n) = 0
+
+-- the number written out, as a fraction: v is what the digits write, f of them behind the point
+abbrev pub writtenOut : ℕ → ℕ → ℤ → ℕ × ℕ
+writtenOut v f x = (v * 10 ^ zeros f x, 10 ^ behind f x)
+
+-- the same number as digits times a power of ten; `numeral::shifted` promises both, and Spelled.antt has the text written out
+abbrev pub timesPower : ℕ → ℕ → ℤ → ℕ × ℕ
+timesPower v f (pos n) = (v * 10 ^ n, 10 ^ f)
+timesPower v f (negsuc n) = (v, 10 ^ f * 10 ^ suc n)
+
+-- the f32 nearest to a fraction, ties to even; below 0 if the numeral that starts at a has a minus
+abbrev pub nearest : List ℕ → ℕ → ℕ → ℕ × ℕ → Float
+nearest s a b q = round binary32 (ltb a (past isMinus s a b)) (q .0) (q .1)
+
+-- the f32 nearest to what the digits at d say with the point shifted by x
+unfoldable pub floatOf : List ℕ → ℕ → ℕ → Decimal → ℤ → Float
+floatOf s a b d x = nearest s a b (writtenOut (digitsOf s d) (d .end - d .fraction) x)
+
+-- the same by digits times a power
+abbrev pub powerFloatOf : List ℕ → ℕ → ℕ → Decimal → ℤ → Float
+powerFloatOf s a b d x = nearest s a b (timesPower (digitsOf s d) (d .end - d .fraction) x)
 
 -- 01, Numerals: "over 9 digits before or after the point"
 abbrev pub mostDigits : ℕ
 mostDigits = 9
 
--- 01, Numerals: a good one has at least one digit and at most `mostDigits` on each side of the point; one that is otherwise good, or has an exponent, is too long
+-- y, the number of the digits at d with the point shifted by x, where they are few enough
+abbrev pub limited : ℕ → Decimal → ℤ → Float → F32
+limited a d x y =
+    pick (leb (before (d .whole - d .from) x) mostDigits)
+    (pick (leb (behind (d .end - d .fraction) x) mostDigits) (number y) (tooLong a))
+    (tooLong a)
+
+-- ---- 02, N4: "e or E, an optional sign and one or two digits"
+
+-- the first digit of the exponent whose e is at i
+abbrev pub exponentStart : List ℕ → ℕ → ℕ → ℕ
+exponentStart s i b = past isSign s (past isE s i b) b
+
+abbrev pub mostExponentDigits : ℕ
+mostExponentDigits = 2
+
+abbrev pub signed : Bool → ℕ → ℤ
+signed minus n = pick minus (negℤ (pos n)) (pos n)
+
+-- what the exponent from i to b says, 0 where there is none
+abbrev pub exponentOf : List ℕ → ℕ → ℕ → ℤ
+exponentOf s i b =
+    let x = past isE s i b in
+    let d = exponentStart s i b in
+    signed (ltb x (past isMinus s x b)) (value 10 s (b - d) d 0)
+
+-- the digits at d with the exponent behind them, where y is the number at each shift
+abbrev pub withExponent : List ℕ → ℕ → ℕ → Decimal → (ℤ → Float) → F32
+withExponent s a b d y =
+    let x = exponentOf s (d .end) b in
+    pick (leb (b - exponentStart s (d .end) b) mostExponentDigits) (limited a d x (y x)) (tooLong a)
+
+-- whether the text behind the digits, from i to b, is an exponent or nothing
+abbrev pub endsAt : List ℕ → ℕ → ℕ → Bool
+endsAt s i b = pick (ltb i b) (exponentAt s i b) true
+
+-- 01, Numerals, and 02, N4: a good one has at least one digit, perhaps an exponent, and written out at most `mostDigits` digits on each side of the point;
+-- one that is otherwise good is too long
 unfoldable pub f32Of : List ℕ → ℕ → ℕ → F32
 f32Of s a b =
     let d = splitAt s a b in
-    let x = floatOf s a b d in
-    pick (eqb (d .whole - d .from + (d .end - d .fraction)) 0) none
-    (pick (ltb (d .end) b) (pick (exponentAt s (d .end) b) (tooLong a) none)
-    (pick (leb (d .whole - d .from) mostDigits) (pick (leb (d .end - d .fraction) mostDigits) (number x) (tooLong a)) (tooLong a)))
+    pick (eqb (digitCount d) 0) none (pick (endsAt s (d .end) b) (withExponent s a b d (floatOf s a b d)) none)
 
 -- the same, blanks around it dropped
 abbrev pub f32At : List ℕ → ℕ → ℕ → F32

@@ -1,11 +1,11 @@
 // Numbers as text writes them: numerals, whole numbers, hexadecimal.
 ghost use mathlib.Core.Path.{_≡_};
-ghost use Prim.Native.Nat.{_+_, _-_, _*_, _≤_, _<_, min};
+ghost use Prim.Native.Nat.{_+_, _-_, _*_, _^_, _≤_, _<_, min};
 ghost use Rattle.scan.specs.Scan.{spanTo, Place};
 ghost use lib.ListN.{length};
 ghost use lib.Ieee.{binary32, toBits};
-ghost use Rattle.numeral.specs.Inner.{Split};
-ghost use Rattle.numeral.specs.Numeral.{value as valueOf, isDigit, most, wholeNumber, upTo, wordOfI32, i32At, hexAt, exponentAt, floatOf, wordOfF32, f32Of, f32At};
+ghost use Rattle.numeral.specs.Inner.{Split, Counted, Says};
+ghost use Rattle.numeral.specs.Numeral.{value as valueOf, isDigit, most, wholeNumber, upTo, wordOfI32, i32At, hexAt, splitAt, exponentAt, digitsOf, before as beforeOf, behind as behindOf, zeros as zerosOf, nearest, signed, wordOfF32, f32Of, f32At};
 
 // What a field holds: no number, a numeral that is too long with the place of its first byte, or the word of a number.
 pub enum Numeral {
@@ -189,13 +189,101 @@ fn exponent_at(text: &[u8], i: usize, b: usize) -> bool
     false
 }
 
-// The word of a numeral that starts at a.
-fn decimal_word(text: &[u8], a: usize, b: usize, d: Decimal, digits: u64) -> u32
-    requires { ⌜ (a ≤ b) × (b ≤ length (now text)) × Split (now text) a b d × (d .whole - d .from ≤ 9) × (d .end - d .fraction ≤ 9) × (digits ≡ valueOf 10 (now text) (d .end - d .fraction) (d .fraction) (valueOf 10 (now text) (d .whole - d .from) (d .from) 0)) ⌝ }
-    ensures { λ r. ⌜ r ≡ toBits binary32 (floatOf (now (text .entry)) a b d) ⌝ }
+// The word of a numeral that starts at a, with so many digits behind its point.
+fn decimal_word(text: &[u8], a: usize, b: usize, digits: u64, tens: usize) -> u32
+    requires { ⌜ (a ≤ b) × (b ≤ length (now text)) × (digits < most) × (tens ≤ 9) ⌝ }
+    ensures { λ r. ⌜ r ≡ toBits binary32 (nearest (now (text .entry)) a b (digits, 10 ^ tens)) ⌝ }
 {
     let negative = a < scan::past(text, scan::Class::Is(45), a, b);
-    decimal::decimal_word(negative, digits, (d.end - d.fraction) as u32)
+    decimal::decimal_word(negative, digits, tens as u32)
+}
+
+// 02, N4: a point with w digits before it and f behind it, shifted by n places, to the left if there is a minus: the digits on
+// both sides, and the zeros put in before it.
+pub struct Shift {
+    pub before: usize,
+    pub behind: usize,
+    pub zeros: usize,
+}
+
+fn shift_of(w: usize, f: usize, minus: bool, n: usize) -> Shift
+    requires { ⌜ (w < 2 ^ 63) × (f < 2 ^ 63) × (n < 2 ^ 63) ⌝ }
+    ensures { λ r. ⌜ (r .before ≡ beforeOf w (signed minus n)) × (r .behind ≡ behindOf f (signed minus n)) × (r .zeros ≡ zerosOf f (signed minus n)) ⌝ }
+{
+    if minus {
+        return Shift {
+            before: w - scan::least(w, n),
+            behind: f + n,
+            zeros: 0,
+        };
+    }
+    let m = scan::least(f, n);
+    Shift {
+        before: w + n,
+        behind: f - m,
+        zeros: n - m,
+    }
+}
+
+// The number that the digits of a numeral write.
+fn digits_at(text: &[u8], a: usize, b: usize) -> u64
+    requires { ⌜ (a ≤ b) × (b ≤ length (now text)) × (digitsOf (now text) (splitAt (now text) a b) < most) ⌝ }
+    ensures { λ r. ⌜ r ≡ digitsOf (now (text .entry)) (splitAt (now (text .entry)) a b) ⌝ }
+{
+    let from = scan::past(text, scan::Class::Either(43, 45), a, b);
+    let whole = scan::span(text, scan::Class::Digit(10), from, b);
+    let fraction = scan::past(text, scan::Class::Is(46), whole, b);
+    let end = scan::span(text, scan::Class::Digit(10), fraction, b);
+    value(text, 10, fraction, end, value(text, 10, from, whole, 0))
+}
+
+// The same, where `digits` has it for at most nine on each side. For the compiler (MEASURED, Shapes for the compiler): more are
+// found anew, so that no place is kept for them.
+fn all_digits(text: &[u8], a: usize, b: usize, w: usize, f: usize, digits: u64) -> u64
+    requires { ⌜ (a ≤ b) × (b ≤ length (now text)) × (digitsOf (now text) (splitAt (now text) a b) < most) × (w ≤ 9 → f ≤ 9 → digits ≡ digitsOf (now text) (splitAt (now text) a b)) ⌝ }
+    ensures { λ r. ⌜ r ≡ digitsOf (now (text .entry)) (splitAt (now (text .entry)) a b) ⌝ }
+{
+    if w <= 9 {
+        if f <= 9 {
+            return digits;
+        }
+    }
+    digits_at(text, a, b)
+}
+
+// The word of a numeral that starts at a, with zeros behind its digits and so many of all these behind its point.
+fn shifted_word(text: &[u8], a: usize, b: usize, digits: u64, zeros: usize, tens: usize) -> u32
+    requires { ⌜ (a ≤ b) × (b ≤ length (now text)) × (digits * 10 ^ zeros < most) × (zeros ≤ 9) × (tens ≤ 9) ⌝ }
+    ensures { λ r. ⌜ r ≡ toBits binary32 (nearest (now (text .entry)) a b (digits * 10 ^ zeros, 10 ^ tens)) ⌝ }
+{
+    let negative = a < scan::past(text, scan::Class::Is(45), a, b);
+    decimal::shifted_word(negative, digits, zeros as u32, tens as u32)
+}
+
+// What a numeral that starts at a says with the exponent behind its digits, w before the point and f behind it.
+fn shifted(text: &[u8], a: usize, b: usize, end: usize, w: usize, f: usize, digits: u64) -> Numeral
+    requires { ⌜ (a ≤ b) × (b ≤ length (now text)) × Counted (now text) a b end w f digits ⌝ }
+    ensures { λ r. ⌜ Says (now (text .entry)) a b (splitAt (now (text .entry)) a b) r ⌝ }
+{
+    let x = scan::past(text, scan::Class::Either(69, 101), end, b);
+    let e = scan::past(text, scan::Class::Either(43, 45), x, b);
+    if b - e > 2 {
+        return Numeral::TooLong(a);
+    }
+    let n = value(text, 10, e, b, 0) as usize;
+    let minus = x < scan::past(text, scan::Class::Is(45), x, b);
+    let shift = shift_of(w, f, minus, n);
+    let before = shift.before;
+    let behind = shift.behind;
+    let zeros = shift.zeros;
+    if before > 9 {
+        return Numeral::TooLong(a);
+    }
+    if behind > 9 {
+        return Numeral::TooLong(a);
+    }
+    let all = all_digits(text, a, b, w, f, digits);
+    Numeral::Word(shifted_word(text, a, b, all, zeros, behind))
 }
 
 // The numeral that fills the text between two places.
@@ -203,24 +291,27 @@ fn f32_of(text: &[u8], a: usize, b: usize) -> Numeral
     requires { ⌜ (a ≤ b) × (b ≤ length (now text)) ⌝ }
     ensures { λ r. ⌜ r ≡ wordOfF32 (f32Of (now (text .entry)) a b) ⌝ }
 {
-    let w = decimal_at(text, a, b);
-    let d = w.at;
-    if d.whole - d.from + (d.end - d.fraction) == 0 {
+    let read = decimal_at(text, a, b);
+    let d = read.at;
+    let end = d.end;
+    let w = d.whole - d.from;
+    let f = end - d.fraction;
+    if w + f == 0 {
         return Numeral::No;
     }
-    if d.end < b {
-        if exponent_at(text, d.end, b) {
-            return Numeral::TooLong(a);
+    if end < b {
+        if exponent_at(text, end, b) {
+            return shifted(text, a, b, end, w, f, read.digits);
         }
         return Numeral::No;
     }
-    if d.whole - d.from > 9 {
+    if w > 9 {
         return Numeral::TooLong(a);
     }
-    if d.end - d.fraction > 9 {
+    if f > 9 {
         return Numeral::TooLong(a);
     }
-    Numeral::Word(decimal_word(text, a, b, d, w.digits))
+    Numeral::Word(decimal_word(text, a, b, read.digits, f))
 }
 
 // A numeral of 01, blanks around it dropped: the bits of its f32.

@@ -39,7 +39,8 @@ whole n e = fin false n (pos e)
 pub floats : Gives (
     ("fs", "20", kept (Fs (whole 5 2))) ∷
     ("FS", " 20 ", kept (Fs (whole 5 2))) ∷
-    ("fs", "1e2", long 2) ∷
+    ("fs", "1e2", kept (Fs (whole 25 2))) ∷
+    ("fs", "1e9", long 2) ∷
     ("fs", "x", no) ∷
     ("fsx", "20", no) ∷
     ("be", "2.5", kept (Be 3)) ∷
@@ -56,15 +57,16 @@ pub lists : Gives (
     ("pos", "1,2", kept (Pos (whole 1 0) (whole 1 1))) ∷
     ("pos", "1,2,3", no) ∷
     ("pos", "1,x", no) ∷
-    ("pos", "x,1e5", long 5) ∷
-    ("pos", "1,2,1e5", long 7) ∷
+    ("pos", "x,1e9", long 5) ∷
+    ("pos", "1,2,1e9", long 7) ∷
     ("move", "1,1,1,1", kept (Move (whole 1 0) (whole 1 0) (whole 1 0) (whole 1 0) absent)) ∷
     ("move", "1,1,1,1,2.9,-2.9", kept (Move (whole 1 0) (whole 1 0) (whole 1 0) (whole 1 0) (times (pos 2) (negsuc 1)))) ∷
     ("clip", "1,1,1,1", kept (ClipRect (whole 1 0) (whole 1 0) (whole 1 0) (whole 1 0))) ∷
+    ("clip", "1e0,10E-1,.1e+1,1e2", kept (ClipRect (whole 1 0) (whole 1 0) (whole 1 0) (whole 25 2))) ∷
     ("clip", "m 0 0 l 9 9", kept (ClipDrawing (from 4 11))) ∷
     ("clip", "1,2,3", kept (ClipDrawing (from 4 5))) ∷
-    ("clip", "1,2,1e5", kept (ClipDrawing (from 4 7))) ∷
-    ("clip", "1,2,x,1e5", long 10) ∷
+    ("clip", "1,2,1e9", kept (ClipDrawing (from 4 7))) ∷
+    ("clip", "1,2,x,1e9", long 10) ∷
     ("clip", "", kept (ClipDrawing (from 0 0))) ∷
     ("fad", "200,-3", kept (Fad 200 0)) ∷
     ("fad", "1,2,3", kept (Fad 1 2)) ∷

@@ -3,12 +3,13 @@ use mathlib.Core.Path.{_≡_, refl, ap}
 use mathlib.Core.List.{List, [], _∷_}
 use Prim.Native.Nat.{ℕ, zero, suc, _+_, _-_, _*_, _≤_}
 use native.Mathlib.Omega.{arith}
+use lib.IntN.{ℤ}
 use lib.ListN.{getD}
 use lib.Dec.{ltb, leb, eqb}
 use Rattle.scan.specs.Scan.{digitOf, inClass}
 use Rattle.scan.specs.declared.Class.the-variants.{Digit, Not, Either}
 use Rattle.numeral.specs.declared.Decimal.{Decimal}
-use Rattle.numeral.specs.Numeral.{isDigit, isSign, isMinus, isPlus, isPoint, isE, value, wholeNumber, i32Of, i32At, hexAt, splitAt, exponentAt, F32, tooLong, number, floatOf, f32Of, f32At}
+use Rattle.numeral.specs.Numeral.{isDigit, isSign, isMinus, isPlus, isPoint, isE, value, wholeNumber, i32Of, i32At, hexAt, splitAt, exponentAt, F32, tooLong, number, digitCount, before, behind, floatOf, limited, exponentStart, exponentOf, endsAt, f32Of, f32At}
 use Rattle.colour.specs.declared.Stretch as Colour
 use Rattle.colour.specs.Colour.{isAmpersand, trimmed, ampersands, zeroXAt, digits, alphaAt, colourAt}
 use Rattle.colour.proofs.Laws.{zero-x-fits}
@@ -76,9 +77,17 @@ module _ {w s : List ℕ} {k n : ℕ} (v : Window w s k n) where
         let d = past-on v x g isSign in
         rw (ltb-on h x, ltb-on d g, eqb-on (span-on v d g isDigit) g)
 
-    float-on : {d′ d : Decimal} → Splits k n d′ d → floatOf w a′ b′ d′ ≡ floatOf s a b d
+    exponent-start-on : On k n (exponentStart w a′ b′) (exponentStart s a b)
+    exponent-start-on = past-on v (past-on v h g isE) g isSign
+
+    exponent-of-on : exponentOf w a′ b′ ≡ exponentOf s a b
+    exponent-of-on =
+        let x = past-on v h g isE in
+        rw (ltb-on x (past-on v x g isMinus), value-to exponent-start-on g 10 0)
+
+    float-on : {d′ d : Decimal} (x : ℤ) → Splits k n d′ d → floatOf w a′ b′ d′ x ≡ floatOf s a b d x
     unfolding floatOf
-    float-on d = rw (ltb-on h (past-on v h g isMinus), value-to (d .from) (d .whole) 10 0, value-to (d .fraction) (d .end) 10 (value 10 s _ _ 0), gap (d .fraction) (d .end))
+    float-on x d = rw (ltb-on h (past-on v h g isMinus), value-to (d .from) (d .whole) 10 0, value-to (d .fraction) (d .end) 10 (value 10 s _ _ 0), gap (d .fraction) (d .end))
 
   module _ {a′ a b′ b : ℕ} (h : On k n a′ a) (g : On k n b′ b) where
     f32-of-on : f32Of w a′ b′ ≡ movedF32 k (f32Of s a b)
@@ -86,14 +95,20 @@ module _ {w s : List ℕ} {k n : ℕ} (v : Window w s k n) where
     f32-of-on =
         let d = splitAt s a b in
         let r = split-on h g in
-        let late : tooLong a′ ≡ tooLong (k + a) = ap tooLong (h .is) in
-        rw (gap (r .from) (r .whole), gap (r .fraction) (r .end), ltb-on (r .end) g, exponent-on (r .end) g, float-on h g r)
-        (either F (eqb (d .whole - d .from + (d .end - d .fraction)) 0) refl
-        (either F (ltb (d .end) b) (either F (exponentAt s (d .end) b) late refl)
-        (either F (leb (d .whole - d .from) 9) (either F (leb (d .end - d .fraction) 9) refl late) late)))
+        let x = exponentOf s (d .end) b in
+        rw (exponent-of-on (r .end) g, gap (exponent-start-on (r .end) g) g, float-on h g x r, exponent-on (r .end) g, gap (r .from) (r .whole), gap (r .fraction) (r .end), ltb-on (r .end) g)
+        (either F (eqb (digitCount d) 0) refl (either F (endsAt s (d .end) b) (either F (leb (b - exponentStart s (d .end) b) 2) (limited-on x) late) refl))
       where
         F : F32 → F32 → Type 0
         F x y = x ≡ movedF32 k y
+
+        late : tooLong a′ ≡ tooLong (k + a)
+        late = ap tooLong (h .is)
+
+        limited-on : (x : ℤ) → limited a′ (splitAt s a b) x (floatOf s a b (splitAt s a b) x) ≡ movedF32 k (limited a (splitAt s a b) x (floatOf s a b (splitAt s a b) x))
+        limited-on x =
+            let d = splitAt s a b in
+            either F (leb (before (d .whole - d .from) x) 9) (either F (leb (behind (d .end - d .fraction) x) 9) refl late) late
 
     trimmed-on : Left k n (trimmed w a′ b′) (trimmed s a b)
     unfolding trimmed

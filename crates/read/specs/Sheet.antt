@@ -56,6 +56,9 @@ pub tables : Gives recordsOf (
     ("\\t(\\fs(5)\\i1", rec 49 0 0 0 0x3F800000 2 0 0 ∷ rec 10 0x40A00000 0 0 0 0 0 0 ∷ rec 43 1 0 0 0 0 0 0 ∷ []) ∷
     ("\\clip(1,2,3)", rec 12 6 5 0 0 0 0 0 ∷ []) ∷
     ("\\fs(nan)", []) ∷
+    -- 02, N4
+    ("\\t(0,1e3,\\fs1e2)", rec 49 1 0 1000 0x3F800000 1 0 0 ∷ rec 10 0x42C80000 0 0 0 0 0 0 ∷ []) ∷
+    ("\\clip(1e0,1,1,2.5E-3)", rec 11 0x3F800000 0x3F800000 0x3F800000 0x3B23D70A 0 0 0 ∷ []) ∷
     ("\\\\\\i1", rec 43 1 0 0 0 0 0 0 ∷ []) ∷
     [])
 unfolding round toBits toSigned span back skip skipBack blankAt blankBefore closing maxZero roundAway roundByte value wholeNumber i32Of hexAt splitAt exponentAt floatOf f32Of trimmed ampersands zeroXAt digits alphaAt colourAt split append records encode count names lookup lowered keyAt part f32s i32s allFloats floatsIn allInts intsIn unlessLong pairOf moveOf fadOf fadeOf rangedOf weightOf flagOf clipOf resetOf shaped isFn isNamedReset plainAt paramAt peel tagAt walk tAt parse
@@ -75,12 +78,13 @@ pub answers : Gives answerOf (
     ("\\t(\\t(\\t(\\t(\\t(\\t(\\t(\\t(\\t(\\b1", Written 8) ∷
     ("\\fs999999999", Written 1) ∷
     ("\\fs1000000000", Refused (NumeralTooLong 3)) ∷
-    ("\\fs1e2", Refused (NumeralTooLong 3)) ∷
-    ("\\pos(x,1e5)", Refused (NumeralTooLong 7)) ∷
-    ("\\pos(1,2, -1e5)", Refused (NumeralTooLong 10)) ∷
-    ("\\fad(1e2,5)\\foo1e2\\clip(1e2)", Written 1) ∷
-    ("\\t(x,1e2,\\i1)", Written 2) ∷
-    ("\\t(1,1e2,\\fs1e3)", Refused (NumeralTooLong 5)) ∷
+    ("\\fs1e2", Written 1) ∷
+    ("\\fs1e9", Refused (NumeralTooLong 3)) ∷
+    ("\\pos(x,1e9)", Refused (NumeralTooLong 7)) ∷
+    ("\\pos(1,2, -1e9)", Refused (NumeralTooLong 10)) ∷
+    ("\\fad(1e9,5)\\foo1e9\\clip(1e9)", Written 1) ∷
+    ("\\t(x,1e9,\\i1)", Written 2) ∷
+    ("\\t(1,1e9,\\fs1e10)", Refused (NumeralTooLong 5)) ∷
     ("\\i1\\fade(0,0,0,0,0,0,1000000001)", Refused (FadeTooFar 3)) ∷
     ("\\fade(0,0,0,-1000000000,0,0,1000000000)", Written 1) ∷
     [])
@@ -99,10 +103,10 @@ Answers rows = map (λ (r : (List ℕ × ℕ) × Answer). answerIn (r .0)) rows 
 
 pub two-faults : Answers (
     ((replicate 12289 128, 0), Refused TextTooLong) ∷
-    ((bytes "\\fs1e2" ++ (128 ∷ []), 0), Refused (NotAscii 6)) ∷
-    ((bytes farFade ++ bytes "\\fs1e2", 1024), Refused (NumeralTooLong 32)) ∷
-    ((bytes farFade ++ bytes "\\fs1e2", 0), Refused (NumeralTooLong 32)) ∷
-    ((bytes "\\fs1e2\\i1", 0), Refused (NumeralTooLong 3)) ∷
+    ((bytes "\\fs1e9" ++ (128 ∷ []), 0), Refused (NotAscii 6)) ∷
+    ((bytes farFade ++ bytes "\\fs1e9", 1024), Refused (NumeralTooLong 32)) ∷
+    ((bytes farFade ++ bytes "\\fs1e9", 0), Refused (NumeralTooLong 32)) ∷
+    ((bytes "\\fs1e9\\i1", 0), Refused (NumeralTooLong 3)) ∷
     ((bytes "\\i1" ++ bytes farFade, 0), Refused (FadeTooFar 3)) ∷
     ((bytes "\\i1\\b1", 1), Refused (NoRoom 2)) ∷
     [])

@@ -8,12 +8,13 @@ use native.Mathlib.Omega.{arith}
 use native.Mathlib.Nat.{le-refl, lt-of-lt-of-le, lt-of-le-of-lt, one-mul, pow-le-pow-right}
 use lib.Dec.{ltb, leb, eqb, lit<}
 use lib.IntN.{ℤ, pos, negℤ, natAbs}
+use lib.Ieee.{Float}
 use lib.ListN.{getD}
 use borrow.Author.Tests.{lt-ltb, le-ltb, le-leb, lt-leb, ne-eqb, ltb-true, leb-true, eqb-true}
 use Rattle.scan.specs.Scan.{pick, isBlank, span, spanTo, past}
 use Rattle.scan.proofs.Laws.{le-or-lt, zero-or, span-low, span-high, span-end, span-stop, passed-span, picked}
 use Rattle.numeral.specs.declared.Decimal.{Decimal}
-use Rattle.numeral.specs.Numeral.{isDigit, isSign, isMinus, isPoint, isE, value, most, wholeNumber, I32, whole, i32Of, splitAt, exponentAt, F32, number, tooLong, mostDigits, f32Of}
+use Rattle.numeral.specs.Numeral.{isDigit, isSign, isMinus, isPoint, isE, value, most, wholeNumber, I32, whole, i32Of, splitAt, exponentAt, F32, number, tooLong, before, behind, mostDigits, limited, mostExponentDigits, exponentStart, exponentOf, endsAt, f32Of}
 use Rattle.numeral.proofs.Laws.{f32-empty, f32-rest, f32-number, value-below, no-digit-below, no-digit-above}
 use Rattle.survey.specs.Survey.{Ten, isExponent, isStop, endsField, Unplain, ten, exponent}
 
@@ -196,7 +197,7 @@ module _ (s : List ℕ) (top a b : ℕ) (high : b ≤ top) (ends : Ends s top b)
 
       rest : ¬ (d .whole - d .from + (d .end - d .fraction) ≡ 0) → d .end < b → (t : Bool) → exponentAt s (d .end) b ≡ t → Unplain s top a b
       rest z l true e = exponent-here z l e
-      rest z l false e = none (f32-rest s a b d refl z l e)
+      rest z l false e = none (f32-rest s a b d refl z (rw (lt-ltb _ _ l) e))
 
 -- ---- where a numeral that is too long begins
 
@@ -209,12 +210,14 @@ module _ (s : List ℕ) (a b : ℕ) where
   AtFront (tooLong k) = k ≡ a
   AtFront (number x) = Unit
 
+  limited-front : (x : ℤ) (y : Float) → AtFront (limited a at x y)
+  limited-front x y = picked AtFront (leb (before (at .whole - at .from) x) mostDigits) _ _ (picked AtFront (leb (behind (at .end - at .fraction) x) mostDigits) _ _ tt refl) refl
+
   at-front : AtFront (f32Of s a b)
   unfolding f32Of
   at-front =
       picked AtFront (eqb (at .whole - at .from + (at .end - at .fraction)) 0) _ _ tt
-      (picked AtFront (ltb (at .end) b) _ _ (picked AtFront (exponentAt s (at .end) b) _ _ refl tt)
-      (picked AtFront (leb (at .whole - at .from) mostDigits) _ _ (picked AtFront (leb (at .end - at .fraction) mostDigits) _ _ tt refl) refl))
+      (picked AtFront (endsAt s (at .end) b) _ _ (picked AtFront (leb (b - exponentStart s (at .end) b) mostExponentDigits) _ _ (limited-front (exponentOf s (at .end) b) _) refl) tt)
 
   -- where there is no text there is no numeral
   nowhere : b ≤ a → f32Of s a b ≡ F32.none

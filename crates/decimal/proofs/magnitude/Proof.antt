@@ -6,7 +6,6 @@ use native.Mathlib.Omega.{arith}
 use lib.Dec.{lit<, le→leb}
 use lib.Ieee.{binary32, round, inFloat}
 use borrow.Author.Needs.{needs}
-use Rattle.decimal.proofs.Law.{round-zero, plus-zero}
 use Rattle.decimal.proofs.Quotient.{quotient}
 use Rattle.decimal.proofs.magnitude.Statement.{statement}
 use Rattle.decimal.proofs.magnitude.Tie as tie
@@ -34,22 +33,8 @@ returns c =
     let e = c .before .ten-to .ensures in
     quotient (a .digits) _ (omega arith) (rw e (in-float (a .tens) (omega arith))) (rw e (one-at-least (a .tens))) ∙ ap (λ (x : ℕ). round binary32 false (a .digits) x) e
 
-returns-2 : tie.Need-returns-2
-returns-2 c = let t = c .before .before .args .tens in cc (plus-zero, round-zero false (10 ^ t) (one-at-least t))
-
-ratio-requires : tie.Need-ratio-requires
-ratio-requires c κs =
-    let n = c .before .before .before .args .tens in
-    let h : n ≤ 9 = c .before .before .before .pre .1 in
-    let t : 10 ^ n ≤ 10 ^ 9 = pow-le-pow-right (lit< tt) h in
-    let z : 0 < 10 ^ n = one-at-least n in
-    (omega (arith, c .before .if3 .left), omega arith, omega (arith, c .ten-to2 .ensures), omega (arith, c .ten-to2 .ensures))
-
-returns-3 : tie.Need-returns-3
-returns-3 c = cc
-
 pub magnitude-spec : {M : Type 1} → statement M
 magnitude-spec =
     tie.close
     (tie.spec
-    int-to-float-result (λ c κs. search needs) int-to-float-result-2 returns returns-2 (λ c κs. search needs) ratio-requires returns-3)
+    int-to-float-result (λ c κs. search needs) int-to-float-result-2 returns (λ c κs. search needs) (λ c. c .exact .ensures))
