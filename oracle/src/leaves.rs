@@ -268,7 +268,8 @@ mod tests {
     #[test]
     fn text_leaves_answer_as_stated() {
         assert_eq!(numeral(b" 20"), found(20f32.to_bits()));
-        assert_eq!(numeral(b" -1e5"), 2 << 32 | 1);
+        assert_eq!(numeral(b"2E1 "), found(20f32.to_bits()));
+        assert_eq!(numeral(b" -1e9"), 2 << 32 | 1);
         assert_eq!(numeral(b"nan"), 0);
         assert_eq!(whole(b" -1 "), found(u32::MAX));
         assert_eq!(hexadecimal(b" 1"), 0);
@@ -283,8 +284,11 @@ mod tests {
     #[test]
     fn list_leaves_answer_as_stated() {
         let one = 1f32.to_bits();
-        assert_eq!(floats(b"1,1"), (1 << 32 | 2, [one, one, 0, 0, 0, 0, 0, 0]));
-        assert_eq!(floats(b"x,+1e5"), (2, [0, 0, 0, 0, 0, 0, 0, 3]));
+        assert_eq!(
+            floats(b"1,1e0"),
+            (1 << 32 | 2, [one, one, 0, 0, 0, 0, 0, 0])
+        );
+        assert_eq!(floats(b"x,+1e9"), (2, [0, 0, 0, 0, 0, 0, 0, 3]));
         assert_eq!(
             ints(b"1,2,3,4,5,6,7,8"),
             (1 << 32 | 8, [1, 2, 3, 4, 5, 6, 7, 0])
@@ -294,7 +298,7 @@ mod tests {
 
     #[test]
     fn lists_agree_with_the_rust() {
-        const PIECES: &[&str] = &[",", "-", ".", "0", "7", " ", "\x0b", "nan", "x"];
+        const PIECES: &[&str] = &[",", "-", ".", "0", "7", " ", "\x0b", "nan", "x", "e1 "];
         for text in crate::generate::exhaustive::texts(PIECES, 5) {
             let (result, words) = floats(&text);
             let rust = animate::parse_float_list(ascii(&text));

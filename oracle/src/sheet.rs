@@ -175,7 +175,10 @@ fn a_spline() {
 fn numerals() {
     assert_eq!(kinds(r"\fs999999999"), [10]);
     assert_eq!(refused(r"\fs1000000000"), (3, 3));
-    assert_eq!(refused(r"\fs1e2"), (3, 3));
+    let (result, words) = read(r"\fs1e2");
+    assert_eq!(result, 1);
+    assert_eq!(words, [10, 100f32.to_bits(), 0, 0, 0, 0, 0, 0]);
+    assert_eq!(refused(r"\fs1e9"), (3, 3));
     assert_eq!(kinds(r"\fs(nan)"), [] as [u32; 0]);
 }
 

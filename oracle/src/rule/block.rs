@@ -398,6 +398,7 @@ mod tests {
         assert_eq!(kinds(&format!("{}\\b1", "\\t(".repeat(8))).len(), 9);
         assert_eq!(kinds(&format!("{}\\b1", "\\t(".repeat(9))).len(), 8);
         assert_eq!(kinds(r"\rAlt Style\fn8x\fs(nan)"), []);
+        assert_eq!(kinds(r"\fs1e2\fad(1e2,5)\t(1e2,\b1)"), [10, 49, 42]);
     }
 
     #[test]
@@ -416,15 +417,19 @@ mod tests {
     #[test]
     fn refusal_3_looks_where_floats_are_read() {
         let place = |text: &str| overrides(text.as_bytes()).too_long;
-        assert_eq!(place(r"\pos(x,1e5)"), Some(7));
-        assert_eq!(place(r"\pos(1,2,1e5)"), Some(9));
-        assert_eq!(place(r"\clip(1,2,3, +1e5)"), Some(13));
+        assert_eq!(place(r"\pos(x,1e9)"), Some(7));
+        assert_eq!(place(r"\pos(1,2,1e9)"), Some(9));
+        assert_eq!(place(r"\clip(1,2,3, +1e9)"), Some(13));
         assert_eq!(
-            place(r"\clip(1,2,1e5)\fad(1e2,5)\foo1e2\t(x,1e2,\b1)"),
+            place(r"\pos(x,1e5)\pos(1e2,2E-3)\t(1,1e2)\clip(1e0,2,3,4)"),
             None
         );
-        assert_eq!(place(r"\t(1,1e2)"), Some(5));
-        assert_eq!(place(&format!("{}1e5", "\\t(".repeat(9))), None);
+        assert_eq!(
+            place(r"\clip(1,2,1e9)\fad(1e9,5)\foo1e9\t(x,1e9,\b1)"),
+            None
+        );
+        assert_eq!(place(r"\t(1,1e9)"), Some(5));
+        assert_eq!(place(&format!("{}1e9", "\\t(".repeat(9))), None);
     }
 
     #[test]

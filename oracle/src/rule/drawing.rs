@@ -20,10 +20,10 @@ mod tests {
 
     #[test]
     fn the_first_refused_token_is_found() {
-        assert_eq!(refused_token(b"m 0 0 l 1 1e5 inf"), Some(10));
+        assert_eq!(refused_token(b"m 0 0 l 1 1e9 inf"), Some(10));
         assert_eq!(refused_token(b"x\x0b -NaN"), Some(3));
         assert_eq!(refused_token(b" +1234567890"), Some(1));
-        assert_eq!(refused_token(b"m 123456789 0 in 1e"), None);
+        assert_eq!(refused_token(b"m 123456789 0 in 1e 1e5"), None);
         assert_eq!(refused_token(b""), None);
     }
 }

@@ -1,4 +1,4 @@
-//! 01, Numerals and Blanks.
+//! 01, Numerals and Blanks; exponents as 02, N4, has them.
 
 pub fn is_blank(byte: u8) -> bool {
     matches!(byte, 9..=13 | 32)
@@ -27,6 +27,7 @@ pub enum Numeral {
 }
 
 const MOST_DIGITS: usize = 9;
+const MOST_EXPONENT_DIGITS: usize = 2;
 
 /// Reads a token without blanks at either end.
 pub fn numeral(token: &str) -> Numeral {
@@ -37,12 +38,31 @@ pub fn numeral(token: &str) -> Numeral {
     if !unsigned.starts_with(|c: char| c == '.' || c.is_ascii_digit()) {
         return Numeral::NotFinite;
     }
-    let (whole, fraction) = unsigned.split_once('.').unwrap_or((unsigned, ""));
-    let long = whole.len() > MOST_DIGITS || fraction.len() > MOST_DIGITS;
-    if long || unsigned.contains(['e', 'E']) {
-        return Numeral::TooLong;
+    match written_out(unsigned) {
+        Some((before, behind)) if before <= MOST_DIGITS && behind <= MOST_DIGITS => {
+            Numeral::Good(value.to_bits())
+        }
+        _ => Numeral::TooLong,
     }
-    Numeral::Good(value.to_bits())
+}
+
+/// How many digits a numeral without its sign has before the point and behind it, once the exponent
+/// has shifted the point; `None`: the exponent has more than two digits.
+pub fn written_out(unsigned: &str) -> Option<(usize, usize)> {
+    let (digits, exponent) = unsigned.split_once(['e', 'E']).unwrap_or((unsigned, "0"));
+    let (whole, fraction) = digits.split_once('.').unwrap_or((digits, ""));
+    let shift = exponent.strip_prefix(['+', '-']).unwrap_or(exponent);
+    if shift.len() > MOST_EXPONENT_DIGITS {
+        return None;
+    }
+    let shift: usize = shift.parse().expect("Rust has read the exponent");
+    if exponent.starts_with('-') {
+        let before = whole.len().saturating_sub(shift);
+        Some((before, fraction.len() + shift))
+    } else {
+        let behind = fraction.len().saturating_sub(shift);
+        Some((whole.len() + shift, behind))
+    }
 }
 
 /// Reads the field `from..to` less its blanks, and says where it begins.
@@ -84,10 +104,13 @@ mod tests {
             ".",
             "+",
             "1e",
+            "1e+",
             "e5",
+            ".e5",
             "--1",
             "1 2",
             "1e5x",
+            "1e9x",
             "12345678901x",
             "in",
         ] {
@@ -97,8 +120,8 @@ mod tests {
             "1000000000",
             "0000000001",
             "1.0000000000",
-            "1e5",
-            "+.5E-3",
+            "1e9",
+            "+.5E-9",
             "1e999",
         ] {
             assert_eq!(numeral(long), Numeral::TooLong, "{long}");
@@ -109,8 +132,64 @@ mod tests {
     }
 
     #[test]
+    fn an_exponent_shifts_the_point() {
+        for (text, plain) in [
+            ("1e2", "100"),
+            ("-1E+02", "-100"),
+            ("1e5", "100000"),
+            ("+.5E-3", "0.0005"),
+            ("2.5E-3", "0.0025"),
+            ("1234567890e-1", "123456789"),
+            ("0.0000000001e5", "0.00001"),
+            ("0e8", "0"),
+            ("1e-9", "0.000000001"),
+            ("123456789.e-0", "123456789"),
+            (".123456789012345678e9", "123456789.012345678"),
+            ("123456789012345678e-09", "123456789.012345678"),
+            ("999999999999999999E-9", "999999999.999999999"),
+        ] {
+            let bits = plain.parse::<f32>().unwrap().to_bits();
+            assert_eq!(numeral(text), Numeral::Good(bits), "{text}");
+            assert_eq!(numeral(plain), Numeral::Good(bits), "{plain}");
+        }
+    }
+
+    #[test]
+    fn an_exponent_shifts_too_far_or_is_too_long() {
+        for long in [
+            "1e9",
+            "0e9",
+            "01e8",
+            "1e-10",
+            "10e-10",
+            "+12345678901e-1",
+            ".12345678901E1",
+            "1e39",
+            "1e99",
+            "1e-99",
+            "1e002",
+            "1e+000",
+            "1e-001",
+            "1e100",
+            "0e18446744073709551616",
+        ] {
+            assert_eq!(numeral(long), Numeral::TooLong, "{long}");
+        }
+    }
+
+    #[test]
+    fn digits_are_counted_behind_the_shift() {
+        assert_eq!(written_out("12.345"), Some((2, 3)));
+        assert_eq!(written_out("12.345e2"), Some((4, 1)));
+        assert_eq!(written_out("12.345E+04"), Some((6, 0)));
+        assert_eq!(written_out("12.345e-1"), Some((1, 4)));
+        assert_eq!(written_out("12.345e-4"), Some((0, 7)));
+        assert_eq!(written_out("12.345e004"), None);
+    }
+
+    #[test]
     fn a_field_begins_at_its_sign_behind_the_blanks() {
-        assert_eq!(field(b" \x0b-1e5\t", 0, 7), (Numeral::TooLong, 2));
+        assert_eq!(field(b" \x0b-1e9\t", 0, 7), (Numeral::TooLong, 2));
         assert_eq!(field(b"  ", 0, 2), (Numeral::None, 2));
     }
 

@@ -80,7 +80,7 @@ fn block_texts() -> Vec<Vec<u8>> {
         .filter(|text| !text.contains("\\t"))
         .collect();
     let deeper = format!("{DEEP}\\t(");
-    for front in ["", "\\fs1e2", DEEP, &deeper] {
+    for front in ["", "\\fs1e9", DEEP, &deeper] {
         for piece in [
             &flat,
             MIXED,
@@ -107,7 +107,7 @@ fn block_texts() -> Vec<Vec<u8>> {
 fn drawing_texts() -> Vec<Vec<u8>> {
     let mut drawings = texts::drawings();
     let numbers = "123456789.987654321 0.000001 ";
-    for front in ["", "m 0 0 l ", "m 0 0 s ", "m 0 0 b ", "m 0 1e2 "] {
+    for front in ["", "m 0 0 l ", "m 0 0 s ", "m 0 0 b ", "m 0 1e9 "] {
         for piece in [
             DRAWN_MIX,
             numbers,

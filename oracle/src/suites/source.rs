@@ -154,7 +154,7 @@ mod tests {
 
     #[test]
     fn refused_texts_are_no_source() {
-        assert!(Source::of_text(b"\\fs1e5".to_vec()).is_none());
+        assert!(Source::of_text(b"\\fs1e9".to_vec()).is_none());
         assert!(Source::of_text(vec![200]).is_none());
         assert_eq!(Source::of_text(b"\\fs1".to_vec()).unwrap().words.len(), 8);
     }

@@ -148,15 +148,16 @@ pub fn nested(records: usize) -> String {
     text
 }
 
-/// Short blocks that 01 refuses: an exponent, ten digits before or behind the point, a far \fade.
+/// Short blocks that 01 refuses: ten digits before or behind the point, written out or by an exponent,
+/// and a far \fade.
 pub fn refused() -> Vec<String> {
     let texts = [
-        "\\fs1e2",
+        "\\fs1e9",
         "\\pos(1234567890,50)",
         "\\an8\\fscx100.1234567890",
         "\\fade(255,0,255,0,300,2000,2000000000)",
-        "\\t(0,1e3,\\fs40)",
-        "\\pos(320,50)\\frz4.5e1\\i1",
+        "\\t(0,1e9,\\fs40)",
+        "\\pos(320,50)\\frz4.5e9\\i1",
     ];
     texts.map(str::to_owned).to_vec()
 }
