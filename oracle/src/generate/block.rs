@@ -254,13 +254,15 @@ fn any_whole(random: &mut Random, text: &mut Vec<u8>) {
 
 fn weight(random: &mut Random, text: &mut Vec<u8>) {
     let weights = [
-        "0", "1", "2", "99", "100", "400", "700", "900", "901", "-1", "+1", " 1\t", "",
+        "0", "1", "2", "99", "100", "400", "700", "900", "901", "-1", "+1", " 1\t", "1e2", "",
     ];
     text.extend_from_slice(random.pick(&weights).as_bytes());
 }
 
 fn flag(random: &mut Random, text: &mut Vec<u8>) {
-    let flags = ["0", "1", "1", "0", "2", "+1", "01", " 1 ", "\x0b0", "", "x"];
+    let flags = [
+        "0", "1", "1", "0", "2", "+1", "01", " 1 ", "\x0b0", "1e0", "", "x",
+    ];
     text.extend_from_slice(random.pick(&flags).as_bytes());
 }
 

@@ -1,6 +1,6 @@
 //! Drawings and clip arguments.
 
-use super::number::{blanks, numeral, whole};
+use super::number::{blanks, exported, numeral, whole};
 use crate::random::Random;
 
 const COMMANDS: &[u8] = b"mmnlllbbsspcMNLBSPCxz";
@@ -37,7 +37,7 @@ fn coordinate(random: &mut Random, text: &mut Vec<u8>) {
         return;
     }
     let number = random.below(2_000) as f32 / *random.pick(&[1.0, 1.0, 2.0, 10.0]) - 300.0;
-    text.extend_from_slice(number.to_string().as_bytes());
+    exported(random, text, number);
 }
 
 /// The argument of a \clip: perhaps a scale and a comma, then a drawing.
@@ -48,7 +48,7 @@ pub fn clip_argument(random: &mut Random, text: &mut Vec<u8>) {
         1 => text.push(b','),
         2 => text.extend_from_slice(
             random
-                .pick(&["0,", "00,", "1x,", "+1,", "1 2,", "1,2,"])
+                .pick(&["0,", "00,", "1x,", "1e1,", "+1,", "1 2,", "1,2,"])
                 .as_bytes(),
         ),
         _ => {

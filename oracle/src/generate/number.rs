@@ -50,17 +50,72 @@ fn digit_count(random: &mut Random) -> usize {
     }
 }
 
-fn exponent(random: &mut Random, text: &mut Vec<u8>) {
+/// The farthest shift of the point.
+const FARTHEST: isize = 12;
+
+/// Digits, a point and an exponent. A good half of the shifts are short, and half of the numerals
+/// have 9 or 10 digits on a side of the point once it is shifted.
+fn with_exponent(random: &mut Random, text: &mut Vec<u8>) {
+    let most = *random.pick(&[3, FARTHEST]);
+    let shift = random.below(2 * most as usize + 1) as isize - most;
+    let [mut before, mut behind] = [shifted_count(random), shifted_count(random)];
+    let limit = *random.pick(&[9, 9, 9, 10]);
+    match random.below(4) {
+        0 => before = (limit - shift).max(0) as usize,
+        1 => behind = (limit + shift).max(0) as usize,
+        _ => {}
+    }
+    digits(random, text, before);
+    if behind > 0 || random.one_in(4) {
+        text.push(b'.');
+    }
+    digits(random, text, behind);
+    if random.one_in(8) {
+        odd_exponent(random, text);
+    } else {
+        exponent(random, text, shift);
+    }
+}
+
+/// How many digits stand on a side of the point before it is shifted.
+fn shifted_count(random: &mut Random) -> usize {
+    match random.below(16) {
+        0 => random.between(0, 19),
+        1 | 2 => random.between(0, 12),
+        _ => random.between(0, 4),
+    }
+}
+
+/// An exponent of one or two digits.
+fn exponent(random: &mut Random, text: &mut Vec<u8>, shift: isize) {
+    let letter = *random.pick(&["e", "E"]);
+    let sign = match shift {
+        0 => *random.pick(&["", "+", "-"]),
+        1.. => *random.pick(&["", "", "+"]),
+        _ => "-",
+    };
+    let (width, places) = (random.between(1, 2), shift.unsigned_abs());
+    text.extend_from_slice(format!("{letter}{sign}{places:0width$}").as_bytes());
+}
+
+/// One of any two digits, of three, of more than a word holds, or what is none.
+fn odd_exponent(random: &mut Random, text: &mut Vec<u8>) {
     text.push(*random.pick(b"eE"));
+    text.extend_from_slice(random.pick(&["", "", "+", "-"]).as_bytes());
     match random.below(6) {
-        0 => {}
-        1 => text.push(b'-'),
-        2 => digits(random, text, 20),
-        3 => {
-            text.push(*random.pick(b"+-"));
-            digits(random, text, 2);
+        0 => digits(random, text, 2),
+        1 => {
+            let places = random.below(FARTHEST as usize + 1);
+            text.extend_from_slice(format!("{places:03}").as_bytes());
         }
-        _ => digits(random, text, 1),
+        2 => digits(random, text, 3),
+        3 => digits(random, text, 20),
+        4 => {}
+        _ => text.extend_from_slice(
+            random
+                .pick(&["+-1", "e1", "1e1", "1.", ".1", "1x"])
+                .as_bytes(),
+        ),
     }
 }
 
@@ -76,14 +131,26 @@ fn mixed_case(random: &mut Random, text: &mut Vec<u8>, word: &str) {
 }
 
 /// The point half way between two neighbouring floats, or the numeral just below or above it.
-/// From 2^15 on it has at most 9 digits behind the point.
+/// From 2^15 on it has at most 9 digits behind the point. Every other one is spelled with an
+/// exponent.
 fn half_way(random: &mut Random, text: &mut Vec<u8>) {
-    let exponent = 127 + random.between(15, 28) as u32;
-    let low = exponent << 23 | random.below(1 << 23) as u32;
+    let biased = 127 + random.between(15, 28) as u32;
+    let low = biased << 23 | random.below(1 << 23) as u32;
     let [below, above] = [low, low + 1].map(|bits| f64::from(f32::from_bits(bits)));
     let billionths = ((below + above) / 2.0 * 1e9) as u64 + random.below(3) as u64 - 1;
-    let (whole, fraction) = (billionths / 1_000_000_000, billionths % 1_000_000_000);
-    text.extend_from_slice(format!("{whole}.{fraction:09}").as_bytes());
+    let shift = if random.one_in(2) {
+        random.below(19) as isize - 9
+    } else {
+        0
+    };
+    // The point stands so far left of its place, and the exponent takes it back.
+    let behind = (9 + shift) as usize;
+    let digits = format!("{billionths:0behind$}");
+    let (whole, fraction) = digits.split_at(digits.len() - behind);
+    text.extend_from_slice(format!("{whole}.{fraction}").as_bytes());
+    if shift != 0 {
+        exponent(random, text, shift);
+    }
 }
 
 /// A decimal numeral or something close to one.
@@ -95,6 +162,8 @@ pub fn numeral(random: &mut Random, text: &mut Vec<u8>) {
     } else if random.one_in(40) {
         let word = random.pick(&["nan", "inf", "infinity", "in", "nano", "infinit"]);
         mixed_case(random, text, word);
+    } else if random.one_in(8) {
+        with_exponent(random, text);
     } else {
         let count = digit_count(random);
         digits(random, text, count);
@@ -102,9 +171,6 @@ pub fn numeral(random: &mut Random, text: &mut Vec<u8>) {
             text.push(b'.');
             let count = digit_count(random);
             digits(random, text, count);
-        }
-        if random.one_in(40) {
-            exponent(random, text);
         }
     }
     if random.one_in(60) {
@@ -117,7 +183,18 @@ pub fn numeral(random: &mut Random, text: &mut Vec<u8>) {
 pub fn plain_numeral(random: &mut Random, text: &mut Vec<u8>) {
     let number = random.below(4_000) as f32 / *random.pick(&[1.0, 1.0, 4.0, 10.0, 128.0]);
     let sign = if random.one_in(5) { "-" } else { "" };
-    text.extend_from_slice(format!("{sign}{number}").as_bytes());
+    text.extend_from_slice(sign.as_bytes());
+    exported(random, text, number);
+}
+
+/// The number as a tool exports it: now and then with an exponent.
+pub fn exported(random: &mut Random, text: &mut Vec<u8>, number: f32) {
+    let spelled = match random.below(24) {
+        0 => format!("{number:e}"),
+        1 => format!("{number:E}"),
+        _ => number.to_string(),
+    };
+    text.extend_from_slice(spelled.as_bytes());
 }
 
 const WHOLE_LIMITS: &[i64] = &[
@@ -163,7 +240,7 @@ pub fn whole(random: &mut Random, text: &mut Vec<u8>) {
         _ => text.extend_from_slice(random.below(1_000).to_string().as_bytes()),
     }
     if random.one_in(30) {
-        text.push(*random.pick(b"x. -"));
+        text.extend_from_slice(random.pick(&["x", ".", " ", "-", "e1"]).as_bytes());
     }
     blanks(random, text);
 }
@@ -285,33 +362,37 @@ pub fn pattern(random: &mut Random) -> u32 {
 #[cfg(test)]
 mod tests {
     use super::*;
-    use crate::rule::numeral::{Numeral, numeral as read};
+    use crate::rule::numeral::{Numeral, numeral as read, written_out};
+
+    fn made(make: fn(&mut Random, &mut Vec<u8>), seed: u64, case: u64) -> String {
+        let mut text = Vec::new();
+        make(&mut Random::new(seed, case), &mut text);
+        String::from_utf8(text).unwrap().trim().to_owned()
+    }
 
     #[test]
     fn half_way_numerals_are_ties_or_beside_one() {
-        let mut ties = 0;
+        let [mut ties, mut shifted] = [0; 2];
         for case in 0..3_000 {
-            let mut text = Vec::new();
-            half_way(&mut Random::new(1, case), &mut text);
-            let text = String::from_utf8(text).unwrap();
+            let text = made(half_way, 1, case);
             assert!(matches!(read(&text), Numeral::Good(_)), "{text}");
             let value: f64 = text.parse().unwrap();
             let bits = (value as f32).to_bits();
             let neighbours = [bits - 1, bits + 1].map(|bits| f64::from(f32::from_bits(bits)));
             let near = f64::from(f32::from_bits(bits));
-            ties += usize::from(neighbours.iter().any(|other| (other + near) / 2.0 == value));
+            let tie = neighbours.iter().any(|other| (other + near) / 2.0 == value);
+            ties += usize::from(tie);
+            shifted += usize::from(tie && text.contains(['e', 'E']));
         }
         assert!(ties > 700, "{ties}");
+        assert!(shifted > 300, "{shifted}");
     }
 
     #[test]
     fn numerals_of_every_sort_are_made() {
         let mut sorts = [0; 4];
         for case in 0..5_000 {
-            let mut text = Vec::new();
-            numeral(&mut Random::new(2, case), &mut text);
-            let text = String::from_utf8(text).unwrap();
-            let sort = match read(text.trim()) {
+            let sort = match read(&made(numeral, 2, case)) {
                 Numeral::None => 0,
                 Numeral::Good(_) => 1,
                 Numeral::TooLong => 2,
@@ -323,5 +404,55 @@ mod tests {
             sorts[0] > 100 && sorts[1] > 2_500 && sorts[2] > 300 && sorts[3] > 20,
             "{sorts:?}"
         );
+    }
+
+    /// What a numeral with an exponent is, and why.
+    fn sort(text: &str) -> &'static str {
+        let unsigned = text.strip_prefix(['+', '-']).unwrap_or(text);
+        let (_, exponent) = unsigned.split_once(['e', 'E']).unwrap();
+        match (read(text), exponent.as_bytes()) {
+            (Numeral::None | Numeral::NotFinite, _) => "no number",
+            (Numeral::TooLong, _) => match written_out(unsigned) {
+                None => "three digits or more in the exponent",
+                Some((10, 0..10)) => "ten digits before the point",
+                Some((0..10, 10)) => "ten digits behind the point",
+                Some(_) => "more digits",
+            },
+            (Numeral::Good(_), exponent) => match (exponent[0], written_out(unsigned)) {
+                (_, Some((9, 9))) => "nine digits on both sides",
+                (_, Some((9, _))) => "nine digits before the point",
+                (_, Some((_, 9))) => "nine digits behind the point",
+                _ if exponent.iter().all(|byte| b"+-0".contains(byte)) => "exponent 0",
+                (b'-', _) => "point to the left",
+                _ => "point to the right",
+            },
+        }
+    }
+
+    #[test]
+    fn exponents_of_every_sort_are_made() {
+        let mut sorts = std::collections::BTreeMap::new();
+        let mut count = 0;
+        for text in (0..20_000).map(|case| made(numeral, 3, case)) {
+            if text.contains(['e', 'E']) {
+                *sorts.entry(sort(&text)).or_insert(0) += 1;
+                count += 1;
+            }
+        }
+        assert!((2_000..4_000).contains(&count), "{count}");
+        assert_eq!(sorts.len(), 11, "{sorts:?}");
+        assert!(sorts.values().all(|&made| made > 40), "{sorts:?}");
+    }
+
+    #[test]
+    fn exported_numbers_are_read() {
+        let texts: Vec<String> = (0..5_000)
+            .map(|case| made(plain_numeral, 4, case))
+            .collect();
+        for text in &texts {
+            assert!(matches!(read(text), Numeral::Good(_)), "{text}");
+        }
+        let shifted = texts.iter().filter(|text| text.contains(['e', 'E']));
+        assert!(shifted.count() > 300);
     }
 }
