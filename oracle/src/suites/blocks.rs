@@ -5,6 +5,7 @@ use crate::answer::table::table;
 use crate::built::animate;
 use crate::generate::block::{block, nested_block, raw_block};
 use crate::generate::exhaustive::texts;
+use crate::generate::exponents;
 use crate::generate::size::{lent_words, long_text, many};
 use crate::hex::show_text;
 use crate::library::{hannuvel_parse_overrides, hannuvel_parse_raw_block};
@@ -52,9 +53,24 @@ const BYTES: &[&str] = &["\\", "t", "r", "(", ")", ",", "1", " "];
 
 /// Whole pieces of blocks.
 const PIECES: &[&str] = &[
-    "\\t(", "\\fs", "\\pos(", "\\fnA", "\\r", "\\clip(", "\\", ")", ",", "1", "1e5", " ", "x", "{",
-    "}",
+    "\\t(", "\\fs", "\\pos(", "\\fnA", "\\r", "\\clip(", "\\", ")", ",", "1", "1e5", "1e9", " ",
+    "x", "{", "}",
 ];
+
+/// What stands before and behind a numeral wherever a block has one.
+const AROUND: [(&str, &str); 5] = [
+    ("\\fs", "\\i1"),
+    ("\\pos(1,", ")\\i1"),
+    ("\\clip(1,2,3,", ")"),
+    ("\\t(", ",\\i1)"),
+    ("\\t(1,2,", "\\i1)"),
+];
+
+/// Numerals of every length with every small exponent, at these places in turn.
+fn shifted() -> impl Iterator<Item = Vec<u8>> {
+    let placed = exponents::numerals().zip(AROUND.iter().cycle());
+    placed.map(|(numeral, (front, rest))| [front.as_bytes(), &numeral, rest.as_bytes()].concat())
+}
 
 /// How many places the text needs, where it is not refused before.
 fn needed(raw: bool, text: &[u8]) -> usize {
@@ -132,7 +148,7 @@ impl Suite for Blocks {
     }
 
     fn fixed(&self) -> Cases<'_, Case> {
-        let all = texts(BYTES, 6).chain(texts(PIECES, 5));
+        let all = texts(BYTES, 6).chain(texts(PIECES, 5)).chain(shifted());
         Box::new(all.enumerate().map(|(number, text)| Case {
             raw: number % 4 == 3,
             words: 6 * WIDTH,

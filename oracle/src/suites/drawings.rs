@@ -3,6 +3,7 @@
 use crate::built::drawing::parse_drawing;
 use crate::generate::drawing::drawing;
 use crate::generate::exhaustive::texts;
+use crate::generate::exponents;
 use crate::generate::size::{lent_words, long_text, many};
 use crate::generate::text::{damage, noise};
 use crate::hex::show_text;
@@ -42,8 +43,14 @@ const PIECES: &[&str] = &[
     "2 3 ",
     "4 5 6 7 8 9 ",
     "-.5",
+    "1e9 ",
     "m",
 ];
+
+/// Coordinates of every length with every small exponent.
+fn coordinates() -> impl Iterator<Item = Vec<u8>> {
+    exponents::numerals().map(|numeral| [b"m 0 ", &numeral[..], b" l 1 1"].concat())
+}
 
 /// Refusals 1, 2, 3 and 7.
 fn refused(case: &Case) -> Option<u64> {
@@ -112,7 +119,8 @@ impl Suite for Drawings {
     }
 
     fn fixed(&self) -> Cases<'_, Case> {
-        Box::new(texts(PIECES, 5).enumerate().map(|(number, text)| Case {
+        let all = texts(PIECES, 5).chain(coordinates());
+        Box::new(all.enumerate().map(|(number, text)| Case {
             exponent: number as u32 % 3,
             words: 12 * WIDTH,
             text,

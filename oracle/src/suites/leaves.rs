@@ -1,6 +1,7 @@
 //! The leaves against the Rust.
 
 use crate::generate::exhaustive::texts;
+use crate::generate::exponents;
 use crate::generate::number::{PATTERNS, hexadecimal, numeral, pattern, whole};
 use crate::generate::text::{damage, noise};
 use crate::hex::show_text;
@@ -41,7 +42,10 @@ fn alphabet(letter: char) -> (&'static [&'static str], u32) {
         'A' | 'C' => (&["&", "H", "h", "0", "x", "X", "1", "f", "+", " "], 6),
         'T' => (&[" ", "\t", "\x0b", "\x0c", "\x1c", "\x08", "a"], 6),
         'P' => (&["(", ")", "\\", "a"], 9),
-        'F' => (&[",", "+", ".", "0", "1", "e", " ", "nan", "123456789"], 6),
+        'F' => (
+            &[",", "+", "-", ".", "0", "1", "e", " ", "nan", "123456789"],
+            6,
+        ),
         'G' => (&[",", "+", "-", "0", "1", " ", "2147483648", "a"], 6),
         _ => unreachable!("only text and list leaves have an alphabet"),
     }
@@ -82,7 +86,9 @@ impl Leaves {
         match &self.leaves[leaf].work {
             Work::Text(..) => {
                 let (pieces, most) = alphabet(letter);
+                let shifted = (letter == 'N').then(exponents::numerals);
                 let all = texts(pieces, most).chain(word_spellings());
+                let all = all.chain(shifted.into_iter().flatten());
                 Box::new(all.map(move |text| case(Input::Text(text))))
             }
             Work::List(..) => {
