@@ -27,7 +27,7 @@ sizes() { # KIND
     esac
 }
 
-texts="typical flat nested unclosed lines spline clip scaled"
+texts="typical flat exponents nested unclosed lines drawn-exponents spline clip scaled"
 tables="evaluate-flat evaluate-nested marks-flat marks-nested spans spans-nested"
 printf '%-15s %6s %12s %12s %10s %10s\n' kind size library rust lib/size rust/lib
 for kind in "${@:-$texts $tables}"; do

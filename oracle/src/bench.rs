@@ -3,7 +3,7 @@
 use crate::calls::{self, Call, Input};
 use crate::clock::timed;
 use crate::places::PLACES;
-use crate::texts::{self, DEEP, DRAWN_MIX, MIXED, NUMERALS};
+use crate::texts::{self, DEEP, DRAWN_EXPONENTS, DRAWN_MIX, EXPONENTS, MIXED, NUMERALS};
 
 const USAGE: &str = "\
 usage: bench [--runs N] [--rounds N] [--only WORDS] [--require]
@@ -130,6 +130,7 @@ fn reading_rows() -> Vec<Row> {
         row("script blocks, raw call", Raw, texts::in_braces(&scripts)),
         row("a thousand mixed tags", Overrides, long("", MIXED)),
         row("12 KB of numerals", Overrides, long("", NUMERALS)),
+        row("12 KB with exponents", Overrides, long("", EXPONENTS)),
         row("eight \\t deep", Overrides, deep()),
         row("12 KB eight \\t deep", Overrides, vec![texts::deep()]),
         refused("refused short blocks", texts::refused()),
@@ -142,6 +143,11 @@ fn reading_rows() -> Vec<Row> {
             long("m 0 0 s ", pairs),
         ),
         row("12 KB drawing, mixed", Drawing, long("", DRAWN_MIX)),
+        row(
+            "12 KB drawing with exponents",
+            Drawing,
+            long("", DRAWN_EXPONENTS),
+        ),
         row("clip arguments", Clip, drawings),
         row("clip arguments with a scale", Clip, scaled),
     ]

@@ -2,11 +2,12 @@
 //! counts the instructions of.
 
 use crate::calls::{self, Call, Input};
-use crate::texts::{DEEP, MIXED, beats, flat, nested, repeated};
+use crate::texts::{DEEP, DRAWN_EXPONENTS, EXPONENTS, MIXED, beats, flat, nested, repeated};
 
 const USAGE: &str = "\
 usage: compare cost KIND SIZE SIDE TIMES
-KIND: typical, flat, nested, unclosed, lines, spline, clip, scaled (SIZE in bytes),
+KIND: typical, flat, exponents, nested, unclosed, lines, drawn-exponents, spline, clip, scaled
+      (SIZE in bytes),
       evaluate-flat, evaluate-nested, marks-flat, marks-nested, spans, spans-nested (SIZE in records)
 SIDE: library, rust";
 
@@ -58,9 +59,11 @@ fn text_of(kind: &str, bytes: usize) -> Option<(Call, String)> {
     let (call, front, piece) = match kind {
         "typical" => (Call::Overrides, "", MIXED),
         "flat" => (Call::Overrides, "", "\\pos(123.5,-45.25)\\fscx120.5"),
+        "exponents" => (Call::Overrides, "", EXPONENTS),
         "nested" => (Call::Overrides, DEEP, "\\fscx123.25\\frz(-123.500)   "),
         "unclosed" => (Call::Overrides, "", "\\fs(\\fs(12.5 "),
         "lines" => (Call::Drawing, "m 0 0 l ", "123.5 -45.25 "),
+        "drawn-exponents" => (Call::Drawing, "", DRAWN_EXPONENTS),
         "spline" => (Call::Drawing, "m 0 0 s ", "123.5 -45.25 "),
         "clip" => (Call::Clip, "m 0 0 l ", "123.5 -45.25 "),
         "scaled" => (Call::Clip, "2,m 0 0 l ", "123.5 -45.25 "),
@@ -94,7 +97,8 @@ mod tests {
 
     #[test]
     fn the_rust_reads_every_kind() {
-        let kinds = "typical flat nested unclosed lines spline clip scaled";
+        let kinds =
+            "typical flat exponents nested unclosed lines drawn-exponents spline clip scaled";
         for kind in words(kinds) {
             for bytes in [30, 4096] {
                 assert_eq!(kind_of(&kind, bytes).unwrap().1[0].text.len(), bytes);

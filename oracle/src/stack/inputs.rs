@@ -11,7 +11,7 @@ use crate::random::Random;
 use crate::rule::refusal::MOST_BYTES;
 use crate::rule::table::has_transition;
 use crate::suites::source::Source;
-use crate::texts::{self, DEEP, DRAWN_MIX, MIXED, NUMERALS, longest};
+use crate::texts::{self, DEEP, DRAWN_EXPONENTS, DRAWN_MIX, EXPONENTS, MIXED, NUMERALS, longest};
 
 /// What is lent to the calls: texts, tables, and words with room for every record.
 pub struct Inputs {
@@ -80,11 +80,13 @@ fn block_texts() -> Vec<Vec<u8>> {
         .filter(|text| !text.contains("\\t"))
         .collect();
     let deeper = format!("{DEEP}\\t(");
-    for front in ["", "\\fs1e9", DEEP, &deeper] {
+    for front in ["", "\\fs1e2", "\\fs1e9", DEEP, &deeper] {
         for piece in [
             &flat,
             MIXED,
             NUMERALS,
+            EXPONENTS,
+            "\\fs.123456789012345678e9",
             "\\fs(\\fs(12.5 ",
             "\\r",
             " ",
@@ -107,10 +109,14 @@ fn block_texts() -> Vec<Vec<u8>> {
 fn drawing_texts() -> Vec<Vec<u8>> {
     let mut drawings = texts::drawings();
     let numbers = "123456789.987654321 0.000001 ";
-    for front in ["", "m 0 0 l ", "m 0 0 s ", "m 0 0 b ", "m 0 1e9 "] {
+    for front in [
+        "", "m 0 0 l ", "m 0 0 s ", "m 0 0 b ", "m 0 1e2 ", "m 0 1e9 ",
+    ] {
         for piece in [
             DRAWN_MIX,
+            DRAWN_EXPONENTS,
             numbers,
+            ".123456789012345678e9 123456789012345678E-9 ",
             "123.5 -45.25 ",
             "m 1 2 ",
             "x ",

@@ -88,12 +88,20 @@ pub fn beats(records: usize) -> String {
 pub const NUMERALS: &str = "\\pos(123456789.987654321,-640.123456789)\\fscx98765432.1\
     \\pos(0.000123456,999999999)\\fscx100.123456789";
 
+/// Numerals with an exponent, as drawing tools export them.
+pub const EXPONENTS: &str = "\\fscx2.5E-3\\pos(1.25e2,3e+1)\\fay-7.8125E-02\\move(0e0,1.5e2,6.4e+2,4.8e+2)\
+    \\frz-4.5e1\\org(3.203125e+02,1.8e+02)\\blur6e-1\\clip(1e2,2e2,5.4e2,2.8E2)";
+
 /// What stands before tags that are eight \t deep.
 pub const DEEP: &str = "\\t(0,100,\\t(\\t(2,\\t(\\t(\\t(\\t(\\t(";
 
 /// Lines, cubics and splines, thirteen bytes to a command.
 pub const DRAWN_MIX: &str = "m 10 0 l 290.5 0 b 296.25 0 300 4.5 300 10 l 300.5 50 310.25 55 \
     b 300.75 56 296.5 60.25 290 60 280.5 60 270.25 58.5 262 61 s 40 0.5 40.5 40 12.75 40.5 p 12 18.25 c ";
+
+/// Lines and cubics whose numbers have an exponent.
+pub const DRAWN_EXPONENTS: &str = "m 1e1 0e0 l 2.905e2 0e0 b 2.9625e+02 0e+00 3.0e+02 4.5e+00 3.0e+02 1.0e+01 \
+    l 3.005e2 5e1 3.1025E2 5.5E1 b 7.8125E-3 5.6e1 -2.965e-1 6.025e1 2.9e2 6e1 c ";
 
 /// The front, then the piece again and again, cut to the number of bytes.
 pub fn repeated(front: &str, piece: &str, bytes: usize) -> String {
@@ -224,6 +232,8 @@ mod tests {
     fn long_blocks_fill_the_table_and_no_more() {
         assert!((1_000..=1_024).contains(&kept(&repeated("", MIXED, MOST_BYTES))));
         assert_eq!(kept(&longest("", NUMERALS)) % 4, 0);
+        let exponents = kept(&longest("", EXPONENTS));
+        assert!(exponents.is_multiple_of(8) && exponents <= MOST_PLACES);
         assert!(kept(&deep()) > 800);
         assert_eq!(kept(&repeated(DEEP, "\\b1", 40)), 10);
     }
@@ -247,7 +257,8 @@ mod tests {
 
     #[test]
     fn drawings_are_read_and_fit() {
-        for text in drawings().iter().chain([&longest("", DRAWN_MIX)]) {
+        let long = [DRAWN_MIX, DRAWN_EXPONENTS].map(|piece| longest("", piece));
+        for text in drawings().iter().chain(&long) {
             assert_eq!(refused_token(text.as_bytes()), None);
             assert!(parse_drawing(text, 1).words.len() <= 8 * MOST_PLACES);
         }
