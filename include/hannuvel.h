@@ -34,7 +34,7 @@ extern "C" {
 #define HANNUVEL_MOST_RECORDS 1024  /* records of a table, commands of a path or spans of a list that count */
 #define HANNUVEL_MOST_BYTES 12288   /* bytes of a text */
 #define HANNUVEL_MOST_MS 1000000000 /* how far an instant, a duration or a tag's time may lie from 0 */
-#define HANNUVEL_MOST_DIGITS 9      /* digits of a numeral before its point, and behind it */
+#define HANNUVEL_MOST_DIGITS 9      /* digits of a numeral, written out, before its point, and behind it */
 #define HANNUVEL_MOST_EXPONENT 32   /* a drawing's scale exponent */
 #define HANNUVEL_MOST_DEPTH 8       /* how deep one \t may stand inside another */
 
@@ -64,6 +64,9 @@ static inline int32_t hannuvel_i32(uint32_t word) {
 /* The grounds for turning a call down, in checking order: of two the lower is given. The two reading calls have 1 to 4
  * and 9, evaluation and the next mark 5 and 6, karaoke spans 5 and 9, progress 6, the style in force 1, 2, 5, 6 and 8,
  * a drawing 1, 2, 3, 7 and 9, a clip argument 1 and 2.
+ *
+ * A numeral is too long (3) if it has, written out without its exponent, more than 9 digits before its point or behind
+ * it (1e9), or if its exponent has more than two digits (1e002). In a drawing so are inf, infinity and nan.
  *
  * A table is malformed (5) if it has more than 1,024 records, or words behind the last whole one, or a word out
  * of the range of its field, or a \t that claims more records than follow in what encloses it, or nine \t one

@@ -9,7 +9,7 @@ use std::fmt;
 /// use hannuvel::{Refusal, Table, parse_overrides};
 ///
 /// let mut table = Table::<4>::new();
-/// let refusal = parse_overrides(r"\pos(x,1e5)", &mut table).unwrap_err();
+/// let refusal = parse_overrides(r"\pos(x,1e9)", &mut table).unwrap_err();
 /// assert_eq!(refusal, Refusal::NumeralTooLong(7));
 /// assert_eq!((refusal.number(), refusal.place(), refusal.count()), (3, Some(7), None));
 /// assert_eq!(refusal.to_string(), "a numeral is too long, at byte 7");
@@ -20,7 +20,8 @@ pub enum Refusal {
     TextTooLong,
     /// 2: a byte is 128 or more. Holds the place of the first.
     NotAscii(usize),
-    /// 3: a numeral has over nine digits before or after its point, or an exponent. Holds the place of its first byte.
+    /// 3: a numeral, written out without its exponent, has over nine digits before or after its point, or its exponent
+    /// has over two digits; in a drawing also `inf`, `infinity` or `nan`. Holds the place of its first byte.
     NumeralTooLong(usize),
     /// 4: a time of a \fade lies beyond [`MOST_MS`](crate::MOST_MS). Holds the place of the \fade's backslash.
     FadeTooFar(usize),

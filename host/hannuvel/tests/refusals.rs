@@ -59,7 +59,7 @@ fn a_text_is_too_long() {
 
 #[test]
 fn a_byte_is_no_ascii() {
-    let text = b"m 1e5 \x80 \xFF";
+    let text = b"m 1e9 \x80 \xFF";
     for call in READINGS {
         assert_eq!(read(call, text, 16), Err(NotAscii(6)));
     }
@@ -72,9 +72,9 @@ fn a_byte_is_no_ascii() {
 fn a_numeral_is_too_long() {
     assert_eq!(read(parse_overrides, br"\fs999999999", 16), Ok(1));
     assert_eq!(read(parse_overrides, br"\fs1000000000", 16), Err(NumeralTooLong(3)));
-    assert_eq!(read(parse_overrides, br"\fs1e2", 16), Err(NumeralTooLong(3)));
-    assert_eq!(read(parse_overrides, br"\pos(x,1e5)", 16), Err(NumeralTooLong(7)));
-    assert_eq!(read(parse_raw_block, br" {\fs1e2} ", 16), Err(NumeralTooLong(5)));
+    assert_eq!(read(parse_overrides, br"\fs1e9", 16), Err(NumeralTooLong(3)));
+    assert_eq!(read(parse_overrides, br"\pos(x,1e9)", 16), Err(NumeralTooLong(7)));
+    assert_eq!(read(parse_raw_block, br" {\fs1e9} ", 16), Err(NumeralTooLong(5)));
     assert_eq!(read(drawing_1, b"m 1 0.0000000001", 16), Err(NumeralTooLong(4)));
     assert_eq!(read(drawing_1, b"l inf 0", 16), Err(NumeralTooLong(2)));
 }
@@ -201,10 +201,10 @@ fn of_places_1024_count() {
 #[test]
 fn the_lower_ground_is_given() {
     let fade = r"\fade(0,0,0,2000000000,0,0,0)";
-    assert_eq!(read(parse_overrides, format!(r"{fade}\fs1e2").as_bytes(), 0), Err(NumeralTooLong(32)));
+    assert_eq!(read(parse_overrides, format!(r"{fade}\fs1e9").as_bytes(), 0), Err(NumeralTooLong(32)));
     assert_eq!(read(parse_overrides, fade.as_bytes(), 0), Err(FadeTooFar(0)));
     let mut path = Lent::new(0);
-    assert_eq!(parse_drawing(b"m 1e2 0", 99, path.lend()), Err(NumeralTooLong(2)));
+    assert_eq!(parse_drawing(b"m 1e9 0", 99, path.lend()), Err(NumeralTooLong(2)));
     assert_eq!(parse_drawing(b"m 0 0", 99, path.lend()), Err(ScaleTooLarge));
 }
 

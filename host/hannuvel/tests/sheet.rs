@@ -83,7 +83,8 @@ fn numerals() {
     let answer = |text| parse_overrides(text, &mut Table::<4>::new()).map(|tags| tags.places());
     assert_eq!(answer(r"\fs999999999"), Ok(1));
     assert_eq!(answer(r"\fs1000000000"), Err(Refusal::NumeralTooLong(3)));
-    assert_eq!(answer(r"\fs1e2"), Err(Refusal::NumeralTooLong(3)));
+    assert_eq!(answer(r"\fs1e9"), Err(Refusal::NumeralTooLong(3)));
+    assert_eq!(sizes(r"\fs1e2", [0]), [100.0]);
     assert_eq!(answer(r"\fs(nan)"), Ok(0));
 }
 
