@@ -102,9 +102,7 @@ fn change(refused: &Refused, text: &str) -> String {
             let shown = found.map_or("it".into(), |c| format!("{c:?} (U+{:04X})", u32::from(c)));
             format!("write {shown} in ASCII, or leave it out")
         }
-        Refusal::NumeralTooLong(_) => {
-            "write it without an exponent, with at most 9 digits before its point and 9 behind it".into()
-        }
+        Refusal::NumeralTooLong(_) => shorter(at_fault(refused.refusal, text).map_or("", |bytes| &text[bytes])).into(),
         Refusal::FadeTooFar(_) => format!("bring its times within ±{milliseconds} ms"),
         Refusal::TableMalformed(_) => "use the table as a reading wrote it, and no more of it".into(),
         Refusal::TimeOutOfRange => format!("give instants and durations within ±{milliseconds} ms"),
@@ -116,6 +114,19 @@ fn change(refused: &Refused, text: &str) -> String {
         }
         Refusal::NoRoom(count) => {
             format!("lend {} in place of {}: --places {count}", counted(count as i64, "place"), refused.places)
+        }
+    }
+}
+
+/// What to change in a numeral that is too long. One whose exponent has one or two digits is so for those of the number
+/// written out.
+fn shorter(numeral: &str) -> &'static str {
+    let exponent = numeral.split_once(['e', 'E']).map(|(_, exponent)| exponent.trim_start_matches(['+', '-']));
+    match exponent.map(str::len) {
+        None => "write it with at most 9 digits before its point and 9 behind it",
+        Some(..=2) => "bring it, written out without an exponent, to at most 9 digits before its point and 9 behind it",
+        Some(_) => {
+            "give its exponent one or two digits, and the number written out at most 9 before its point and 9 behind it"
         }
     }
 }
@@ -243,16 +254,38 @@ mod tests {
 
     #[test]
     fn bytes_at_fault() {
-        assert_eq!(at_fault(Refusal::NumeralTooLong(7), r"\pos(x,1e5)"), Some(7..10));
-        assert_eq!(at_fault(Refusal::NumeralTooLong(3), r"\fs1e5"), Some(3..6));
+        assert_eq!(at_fault(Refusal::NumeralTooLong(7), r"\pos(x,1e9)"), Some(7..10));
+        assert_eq!(at_fault(Refusal::NumeralTooLong(3), r"\fs1e9"), Some(3..6));
+        assert_eq!(at_fault(Refusal::NumeralTooLong(9), r"\clip(0, -2.5E+10 ,1,1)"), Some(9..17));
+        assert_eq!(at_fault(Refusal::NumeralTooLong(2), "m 1e-10 0"), Some(2..7));
         assert_eq!(at_fault(Refusal::FadeTooFar(3), r"\b1\fade(1,2)\i1"), Some(3..13));
         assert_eq!(at_fault(Refusal::NotAscii(1), "aäb"), Some(1..3));
         assert_eq!(at_fault(Refusal::NoRoom(1), "a"), None);
     }
 
+    /// Those of the exponent, of the number written out, or of the numeral as it stands.
+    #[test]
+    fn the_digits_to_change_are_told() {
+        let change = |place, text| {
+            let refusal = Refusal::NumeralTooLong(place);
+            change(&Refused { refusal, places: 0, style: None }, text)
+        };
+        let plain = "write it with at most 9 digits ";
+        assert!(change(3, r"\fs1234567890\be1").starts_with(plain));
+        assert!(change(2, "m 0.0000000001 1e2").starts_with(plain));
+        let written_out = "bring it, written out without an exponent, to at most 9 digits ";
+        for text in [r"\fs1e9", r"\fs-1E-10", r"\fs1.5e+09\i1", r"\fs1234567890e0"] {
+            assert!(change(3, text).starts_with(written_out), "{text}");
+        }
+        let exponent = "give its exponent one or two digits, ";
+        for text in [r"\fs1e002", r"\fs1E-100 ", r"\fs1e+009"] {
+            assert!(change(3, text).starts_with(exponent), "{text}");
+        }
+    }
+
     #[test]
     fn a_long_line_is_cut() {
-        let text = format!("{}\n{}1e5,{}\n", "a".repeat(200), "b".repeat(200), "c".repeat(200));
+        let text = format!("{}\n{}1e9,{}\n", "a".repeat(200), "b".repeat(200), "c".repeat(200));
         let shown = shown(Refusal::NumeralTooLong(401), &text);
         assert!(shown.contains("text:2:201"), "{shown}");
         assert!(shown.lines().all(|line| line.chars().count() < 120), "{shown}");

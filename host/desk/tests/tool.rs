@@ -59,6 +59,11 @@ fn a_block_without_tags() {
 }
 
 #[test]
+fn a_block_with_exponents() {
+    insta::assert_snapshot!(run(&["block", r"\fs1e2\pos(1.25e2,2.5E-3)"]));
+}
+
+#[test]
 fn a_raw_block() {
     insta::assert_snapshot!(run(&["block", r" {\k50\rTop} ", "--raw", "--at=-5,10", "--style", "Default"]));
 }
@@ -257,7 +262,7 @@ fn ground_2_in_a_style() {
 
 #[test]
 fn ground_3_a_numeral_too_long() {
-    insta::assert_snapshot!(run(&["block", r"\b1\pos(x,1e5)"]));
+    insta::assert_snapshot!(run(&["block", r"\b1\pos(x,1e9)"]));
 }
 
 #[test]
@@ -269,7 +274,7 @@ fn ground_3_in_the_second_line_of_a_file() {
 #[test]
 fn ground_3_in_a_drawing() {
     let svg = file("never.svg");
-    insta::assert_snapshot!(run(&["drawing", "m 0 0 l 1e3 5", "--svg", svg.to_str().unwrap()]));
+    insta::assert_snapshot!(run(&["drawing", "m 0 0 l 1e9 5", "--svg", svg.to_str().unwrap()]));
     assert!(!svg.exists());
 }
 
@@ -309,7 +314,7 @@ fn ground_9_more_than_count() {
 
 #[test]
 fn a_refusal_as_json() {
-    let (status, json) = json(&["block", r"\pos(x,1e5)"]);
+    let (status, json) = json(&["block", r"\pos(x,1e9)"]);
     assert_eq!(status, 1);
     let refusal = &json["refusal"];
     assert_eq!((&refusal["ground"], &refusal["place"], &refusal["bytes"]["last"]), (&3.into(), &7.into(), &9.into()));
@@ -399,6 +404,13 @@ fn a_drawing() {
     let shape = fs::read_to_string(svg).unwrap();
     assert!(shape.contains("3 commands, 3 points, 2 control points"));
     assert_eq!(shape.matches("<circle").count(), 3 + 2 + 2);
+}
+
+#[test]
+fn a_drawing_with_an_exponent() {
+    let svg = file("exponent.svg");
+    let (status, json) = json(&["drawing", "m 0 0 l 1e2 0", "--svg", svg.to_str().unwrap()]);
+    assert_eq!((status, json["path"][1].to_string().as_str()), (0, r#"{"command":"line","points":[[100.0,0.0]]}"#));
 }
 
 #[test]
@@ -514,7 +526,7 @@ fn shell(script: &str) -> String {
 fn colour_when_asked_for() {
     let always = run(&["block", BLOCK, "--color", "always"]);
     assert!(always.contains("\x1b["));
-    assert!(run(&["block", r"\pos(x,1e5)", "--color", "always"]).contains("\x1b["));
+    assert!(run(&["block", r"\pos(x,1e9)", "--color", "always"]).contains("\x1b["));
     for plain in [run(&["block", BLOCK]), run(&["block", BLOCK, "--color", "never"])] {
         assert!(!plain.contains('\x1b'));
     }
