@@ -22,7 +22,8 @@ run() { # ARGUMENTS..
     run '{\k50}' Default 1000
     run '\t(500,600,\rTop)' Default 1000 500 501
     run 'no tag' Default 1000 0
-    run '\pos(x,1e5)' Default 1000
+    run '\fs1e2\pos(1.25e2,2.5E-3)\clip(m 0 0 l 1e2 0)' Default 1000 0
+    run '\pos(x,1e9)' Default 1000
     run '\fs20' Default 1000 2000000000
     run "$(printf '\\b1%.0s' {1..65})" Default 1000
 } | diff -u examples/c/expected -
