@@ -16,6 +16,28 @@
  * A table has eight words to a record, a path eight to a command, a list of karaoke spans three to a span. The words
  * that make up a whole one are a place. Words behind the last whole place are never written, nor is any word where a
  * call is refused. Words behind the last record, command or span written keep what they held.
+ *
+ * Stack. The most bytes that a call uses, by how many \t stand inside each other in its text or table:
+ *
+ *                         none       1       8      16
+ *     parse_overrides    1,024   1,280   3,200   5,376
+ *     parse_raw_block    1,024   1,280   3,200   5,376
+ *     evaluate_at        1,024   1,728   6,400  11,776
+ *     next_mark            320     448   1,344   2,368
+ *     karaoke_spans        192     320   1,216   2,240
+ *     style_in_force       320     448   1,344   2,368
+ *     parse_drawing        832
+ *     split_clip_arg       192
+ *     progress              64
+ *
+ * So in 48 KB (49,152 bytes), beside a text of so many bytes, a state and the stack of evaluate_at, a table has room
+ * for so many records; 1,024 count:
+ *
+ *     text of bytes       none       1       8      16
+ *      1,024             1,024   1,024   1,024   1,024
+ *      4,096             1,024   1,024   1,024   1,024
+ *      8,192             1,024   1,024   1,024     900
+ *     12,288             1,024   1,024     940     772
  */
 #ifndef HANNUVEL_H
 #define HANNUVEL_H
@@ -36,7 +58,7 @@ extern "C" {
 #define HANNUVEL_MOST_MS 1000000000 /* how far an instant, a duration or a tag's time may lie from 0 */
 #define HANNUVEL_MOST_DIGITS 9      /* digits of a numeral, written out, before its point, and behind it */
 #define HANNUVEL_MOST_EXPONENT 32   /* a drawing's scale exponent */
-#define HANNUVEL_MOST_DEPTH 8       /* how deep one \t may stand inside another */
+#define HANNUVEL_MOST_DEPTH 16      /* how deep one \t may stand inside another */
 
 /* What a call returns is one number:
  *
@@ -69,7 +91,7 @@ static inline int32_t hannuvel_i32(uint32_t word) {
  * it (1e9), or if its exponent has more than two digits (1e002). In a drawing so are inf, infinity and nan.
  *
  * A table is malformed (5) if it has more than 1,024 records, or words behind the last whole one, or a word out
- * of the range of its field, or a \t that claims more records than follow in what encloses it, or nine \t one
+ * of the range of its field, or a \t that claims more records than follow in what encloses it, or seventeen \t one
  * inside the other. What a reading wrote, and no more words than that, is never malformed. */
 enum hannuvel_ground {
     HANNUVEL_ANSWERED = 0,          /* none: the call is answered */

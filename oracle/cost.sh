@@ -27,8 +27,9 @@ sizes() { # KIND
     esac
 }
 
-texts="typical flat exponents nested unclosed lines drawn-exponents spline clip scaled"
-tables="evaluate-flat evaluate-nested marks-flat marks-nested spans spans-nested"
+texts="typical flat exponents nested deeper unclosed lines drawn-exponents spline clip scaled"
+tables="evaluate-flat evaluate-nested evaluate-deeper marks-flat marks-nested marks-deeper"
+tables+=" spans spans-nested spans-deeper"
 printf '%-15s %6s %12s %12s %10s %10s\n' kind size library rust lib/size rust/lib
 for kind in "${@:-$texts $tables}"; do
     for k in $kind; do

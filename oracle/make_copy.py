@@ -76,6 +76,8 @@ ANIMATE = [
     drop("fn compose_transform(", "fn apply_tag("),
     # The walk over segments of the core crate.
     drop("/// Walk `cue.segments`", "fn parse_raw_block("),
+    # \t nests sixteen deep (02, N7).
+    replace("const MAX_T_DEPTH: usize = 8;", "const MAX_T_DEPTH: usize = 16;"),
     # What the comparison calls itself.
     public("parse_raw_block"),
     public("read_param"),

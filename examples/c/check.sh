@@ -21,6 +21,7 @@ run() { # ARGUMENTS..
     run '{\fad(20,30)\k10\k10\kf0\k50\kf100\k10}' Default 1000
     run '{\k50}' Default 1000
     run '\t(500,600,\rTop)' Default 1000 500 501
+    run "$(printf '\\t(%.0s' {1..9})\\b1" Default 1000 1000
     run 'no tag' Default 1000 0
     run '\fs1e2\pos(1.25e2,2.5E-3)\clip(m 0 0 l 1e2 0)' Default 1000 0
     run '\pos(x,1e9)' Default 1000

@@ -3,7 +3,7 @@
 use crate::calls::{self, Call, Input};
 use crate::clock::timed;
 use crate::places::PLACES;
-use crate::texts::{self, DEEP, DRAWN_EXPONENTS, DRAWN_MIX, EXPONENTS, MIXED, NUMERALS};
+use crate::texts::{self, DRAWN_EXPONENTS, DRAWN_MIX, EXPONENTS, MIXED, NUMERALS};
 
 const USAGE: &str = "\
 usage: bench [--runs N] [--rounds N] [--only WORDS] [--require]
@@ -72,8 +72,12 @@ pub fn rows() -> Vec<Row> {
     rows
 }
 
-fn deep() -> Vec<String> {
-    vec![format!("{DEEP}\\fscx120\\frz-12.5)\\1a&H40&)))))))")]
+fn deep(depth: usize) -> Vec<String> {
+    vec![texts::deep(depth)]
+}
+
+fn longest_deep(depth: usize) -> Vec<String> {
+    vec![texts::longest_deep(depth)]
 }
 
 /// Tables that were read before, evaluated or asked for the next mark.
@@ -89,11 +93,13 @@ fn line_rows() -> Vec<Row> {
         lines("evaluate karaoke lines", Evaluate, texts::karaoke()),
         lines("evaluate moving lines", Evaluate, texts::moves()),
         lines("evaluate a thousand flat tags", Evaluate, flat.clone()),
-        lines("evaluate eight \\t deep", Evaluate, deep()),
+        lines("evaluate eight \\t deep", Evaluate, deep(8)),
+        lines("evaluate 12 KB eight \\t deep", Evaluate, longest_deep(8)),
+        lines("evaluate sixteen \\t deep", Evaluate, deep(16)),
         lines(
-            "evaluate 12 KB eight \\t deep",
+            "evaluate 12 KB sixteen \\t deep",
             Evaluate,
-            vec![texts::deep()],
+            longest_deep(16),
         ),
         lines("evaluate many accelerated \\t", Evaluate, fast),
         lines("next mark of typical lines", NextMark, typical),
@@ -131,8 +137,10 @@ fn reading_rows() -> Vec<Row> {
         row("a thousand mixed tags", Overrides, long("", MIXED)),
         row("12 KB of numerals", Overrides, long("", NUMERALS)),
         row("12 KB with exponents", Overrides, long("", EXPONENTS)),
-        row("eight \\t deep", Overrides, deep()),
-        row("12 KB eight \\t deep", Overrides, vec![texts::deep()]),
+        row("eight \\t deep", Overrides, deep(8)),
+        row("12 KB eight \\t deep", Overrides, longest_deep(8)),
+        row("sixteen \\t deep", Overrides, deep(16)),
+        row("12 KB sixteen \\t deep", Overrides, longest_deep(16)),
         refused("refused short blocks", texts::refused()),
         refused("refused 12 KB blocks", texts::refused_long()),
         row("drawings", Drawing, drawings.clone()),

@@ -183,13 +183,15 @@ mod tests {
     #[test]
     fn states_are_walked_to_the_next_that_differs() {
         assert_eq!(change(flat(10), 400), Some(801));
-        assert_eq!(change(nested(10), -20), Some(10));
+        assert_eq!(change(nested(8, 10), -20), Some(10));
+        assert_eq!(change(nested(16, 17), -20), Some(10));
+        assert_eq!(change(nested(16, 10), -20), None);
         assert_eq!(change(flat(1), 400), None);
     }
 
     #[test]
     fn a_line_holds_what_both_sides_take() {
-        let inputs = Input::lines(vec![nested(9), flat(3)], &[5, 6], 100);
+        let inputs = Input::lines(vec![nested(8, 9), flat(3)], &[5, 6], 100);
         let held: Vec<(i32, usize, usize)> = inputs
             .iter()
             .map(|input| (input.t, input.records(), input.cue.tags.len()))

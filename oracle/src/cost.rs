@@ -2,13 +2,16 @@
 //! counts the instructions of.
 
 use crate::calls::{self, Call, Input};
-use crate::texts::{DEEP, DRAWN_EXPONENTS, EXPONENTS, MIXED, beats, flat, nested, repeated};
+use crate::texts::{
+    DRAWN_EXPONENTS, EXPONENTS, INNER, MIXED, beats, flat, nested, opened, repeated,
+};
 
 const USAGE: &str = "\
 usage: compare cost KIND SIZE SIDE TIMES
-KIND: typical, flat, exponents, nested, unclosed, lines, drawn-exponents, spline, clip, scaled
+KIND: typical, flat, exponents, nested, deeper, unclosed, lines, drawn-exponents, spline, clip, scaled
       (SIZE in bytes),
-      evaluate-flat, evaluate-nested, marks-flat, marks-nested, spans, spans-nested (SIZE in records)
+      evaluate-flat, evaluate-nested, evaluate-deeper, marks-flat, marks-nested, marks-deeper,
+      spans, spans-nested, spans-deeper (SIZE in records)
 SIDE: library, rust";
 
 /// `None`: the words are no such command, or the library lacks the call.
@@ -56,11 +59,13 @@ fn kind_of(kind: &str, size: usize) -> Option<(Call, Vec<Input>)> {
 
 /// A text of exactly so many bytes with at most 1,024 tags or commands.
 fn text_of(kind: &str, bytes: usize) -> Option<(Call, String)> {
+    let (eight, sixteen) = (opened(8), opened(16));
     let (call, front, piece) = match kind {
         "typical" => (Call::Overrides, "", MIXED),
         "flat" => (Call::Overrides, "", "\\pos(123.5,-45.25)\\fscx120.5"),
         "exponents" => (Call::Overrides, "", EXPONENTS),
-        "nested" => (Call::Overrides, DEEP, "\\fscx123.25\\frz(-123.500)   "),
+        "nested" => (Call::Overrides, &*eight, INNER),
+        "deeper" => (Call::Overrides, &*sixteen, INNER),
         "unclosed" => (Call::Overrides, "", "\\fs(\\fs(12.5 "),
         "lines" => (Call::Drawing, "m 0 0 l ", "123.5 -45.25 "),
         "drawn-exponents" => (Call::Drawing, "", DRAWN_EXPONENTS),
@@ -74,15 +79,18 @@ fn text_of(kind: &str, bytes: usize) -> Option<(Call, String)> {
 
 /// A text of so many records and the instant: amid the changes for evaluation; for the marks some
 /// time before one, so that the Rust walks from 400 to 801 in a flat line and from -20 to 10 in a
-/// nested one, but to the end of a line of one tag, as that does not move.
+/// nested one, but to the end of a line of one tag or of \t around none, as that does not move.
 fn line_of(kind: &str, records: usize) -> Option<(Call, String, i32)> {
     Some(match kind {
         "evaluate-flat" => (Call::Evaluate, flat(records), 50),
-        "evaluate-nested" => (Call::Evaluate, nested(records), 50),
+        "evaluate-nested" => (Call::Evaluate, nested(8, records), 50),
+        "evaluate-deeper" => (Call::Evaluate, nested(16, records), 50),
         "marks-flat" => (Call::NextMark, flat(records), 400),
-        "marks-nested" => (Call::NextMark, nested(records), -20),
+        "marks-nested" => (Call::NextMark, nested(8, records), -20),
+        "marks-deeper" => (Call::NextMark, nested(16, records), -20),
         "spans" => (Call::Spans, beats(records), 0),
-        "spans-nested" => (Call::Spans, nested(records), 0),
+        "spans-nested" => (Call::Spans, nested(8, records), 0),
+        "spans-deeper" => (Call::Spans, nested(16, records), 0),
         _ => return None,
     })
 }
@@ -97,8 +105,8 @@ mod tests {
 
     #[test]
     fn the_rust_reads_every_kind() {
-        let kinds =
-            "typical flat exponents nested unclosed lines drawn-exponents spline clip scaled";
+        let kinds = "typical flat exponents nested deeper unclosed lines drawn-exponents spline \
+            clip scaled";
         for kind in words(kinds) {
             for bytes in [30, 4096] {
                 assert_eq!(kind_of(&kind, bytes).unwrap().1[0].text.len(), bytes);
@@ -109,9 +117,9 @@ mod tests {
 
     #[test]
     fn the_rust_takes_every_kind_of_line() {
-        for kind in
-            words("evaluate-flat evaluate-nested marks-flat marks-nested spans spans-nested")
-        {
+        let kinds = "evaluate-flat evaluate-nested evaluate-deeper marks-flat marks-nested \
+            marks-deeper spans spans-nested spans-deeper";
+        for kind in words(kinds) {
             for records in [1, 10, 100, 1_000] {
                 assert_eq!(kind_of(&kind, records).unwrap().1[0].records(), records);
             }

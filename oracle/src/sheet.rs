@@ -141,10 +141,14 @@ fn colours_and_alphas() {
 }
 
 #[test]
-fn eight_t_and_nine() {
+fn sixteen_t_and_seventeen() {
     let nested = |count: usize| kinds(&format!("{}\\b1", "\\t(".repeat(count)));
-    assert_eq!(nested(8), [49, 49, 49, 49, 49, 49, 49, 49, 42]);
-    assert_eq!(nested(9), [49; 8]);
+    for (count, records) in [(8, 9), (9, 10), (16, 17)] {
+        let kinds = nested(count);
+        assert_eq!(kinds.len(), records);
+        assert_eq!(kinds, [vec![49; count], vec![42]].concat());
+    }
+    assert_eq!(nested(17), [49; 16]);
 }
 
 #[test]

@@ -32,15 +32,15 @@ use Rattle.read.specs.Holds.{Holds}
 use Rattle.read.proofs.Parts.{SpanIn}
 use Rattle.read.proofs.Holds.{holds}
 use Rattle.read.proofs.Places.{few-read}
-use Rattle.table.specs.Ground.{InTime, timeGround, Fine, callGround}
+use Rattle.table.specs.Ground.{InTime, timeGround, Fine, callGroundTo, callGround}
 use Rattle.table.proofs.Grounds.{fine-good}
 use Rattle.state.specs.Apply.{evaluateAt}
 use Rattle.words.specs.Words.{stateWords}
 use Rattle.evaluate.specs.declared.Evaluated.{Evaluated}
-use Rattle.evaluate.specs.Evaluate.{evaluated}
+use Rattle.evaluate.specs.Evaluate.{evaluatedTo, evaluated}
 use Rattle.marks.specs.declared.Mark.{Mark}
 use Rattle.marks.specs.declared.Marked.{Marked}
-use Rattle.marks.specs.Answer.{marked}
+use Rattle.marks.specs.Answer.{markedTo, marked}
 use Rattle.marks.specs.Marks.{marks, NoMark, nextMark}
 use Rattle.marks.proofs.Earliest.{next-earliest}
 use Rattle.marks.proofs.Same.{same-at}
@@ -176,7 +176,7 @@ module _ (s : List ℕ) (x : Span) (inside : SpanIn s x) (t u dur : ℤ) where
       fine = record { formed = h .formed; instant = k; duration = d }
 
       is-state : evaluated ws i dur ≡ Evaluated.State (evaluateAt i dur l)
-      unfolding evaluated
+      unfolding evaluatedTo
       is-state = rw (fine-good ws i dur fine, h .tags)
 
       state-is : w ≡ stateWords (evaluateAt i dur l)
@@ -191,15 +191,15 @@ module _ (s : List ℕ) (x : Span) (inside : SpanIn s x) (t u dur : ℤ) where
     -- out of range it is refused
     module _ (g : Refusal) (k : timeGround i dur ≡ Bad g) {v w : List ℕ} {p : Seen} (saw : Saw ws i dur v p w) where
       bad : callGround ws i dur ≡ Bad g
-      unfolding callGround
+      unfolding callGroundTo
       bad = rw (formed-ground ws (h .formed), k)
 
       is-refused : evaluated ws i dur ≡ Evaluated.Refused g
-      unfolding evaluated
+      unfolding evaluatedTo
       is-refused = rw bad
 
       no-mark : marked ws i dur ≡ Marked.Refused g
-      unfolding marked
+      unfolding markedTo
       no-mark = rw bad
 
       unwritten : w ≡ v

@@ -17,19 +17,19 @@ use Rattle.tag.specs.Decode.{tagsOf}
 use Rattle.state.specs.declared.RenderState.{RenderState}
 use Rattle.state.specs.State.{identity}
 use Rattle.state.specs.Apply.{evaluateAt}
-use Rattle.table.specs.Ground.{timeGround, callGround}
+use Rattle.table.specs.Ground.{timeGround, callGroundTo, callGround}
 use Rattle.table.proofs.Slices.{length-records}
 use Rattle.table.proofs.Grounds.{table-found, good-fine}
 use Rattle.words.specs.Words.{stateWords}
 use Rattle.evaluate.specs.declared.Evaluated.{Evaluated}
 use Rattle.evaluators.specs.Inner.{tagsAt, told, wordsIf}
 use Rattle.evaluate.specs.Inner.{isGood, AppliedAll}
-use Rattle.evaluate.specs.Evaluate.{evaluatedOr, evaluated, groundOf, stateOf, StateStands, stateAfter, InWords}
+use Rattle.evaluate.specs.Evaluate.{evaluatedOr, evaluatedTo, evaluated, groundOf, stateOf, StateStands, stateAfter, InWords}
 
 module _ {t dur : ℤ} {ws : List ℕ} {write : Bool} {v u : List ℕ} {r : RenderState} {x : ℕ} (a : AppliedAll t dur ws write v r x u) where
   -- a record is at fault
   pub at-fault : 0 < x → Evaluated.Refused (TableMalformed (x - 1)) ≡ evaluated ws t dur
-  unfolding evaluated callGround
+  unfolding evaluatedTo callGroundTo
   at-fault p = go x refl
     where
       go : (n : ℕ) → x ≡ n → Evaluated.Refused (TableMalformed (x - 1)) ≡ evaluated ws t dur
@@ -45,17 +45,17 @@ module _ {t dur : ℤ} {ws : List ℕ} {write : Bool} {v u : List ℕ} {r : Rend
 
     -- no record is: what is left of the grounds
     left : c ≡ callGround ws t dur
-    unfolding callGround
+    unfolding callGroundTo
     left =
         let k : excess ws ≡ tableGround ws = table-found ws (min (placesOf ws) mostPlaces) Good refl (sym none ∙ a .ground) in
         f ∙ ap (λ (y : Checked). firstGround y (timeGround t dur)) k
 
     pub late : (b : Refusal) → c ≡ Bad b → Evaluated.Refused b ≡ evaluated ws t dur
-    unfolding evaluated
+    unfolding evaluatedTo
     late b y = ap (λ (g : Checked). evaluatedOr g (evaluateAt t dur (tagsOf ws))) (sym y ∙ left)
 
     pub stated : c ≡ Good → Evaluated.State r ≡ evaluated ws t dur
-    unfolding evaluated evaluateAt tagsAt
+    unfolding evaluatedTo evaluateAt tagsAt
     stated y =
         let k : Good ≡ callGround ws t dur = sym y ∙ left in
         let p : min (placesOf ws) mostPlaces ≡ placesOf ws = omega (arith, good-fine ws t dur (sym k) .formed .few, length-records ws) in
@@ -68,7 +68,7 @@ stands Good st = record { ground = refl; value = refl }
 stands (Bad r) st = record { ground = refl; value = refl }
 
 pub told-by-value : (ws : List ℕ) (t dur : ℤ) {r : Evaluated} → r ≡ evaluated ws t dur → (r ≡ evaluated ws t dur) × StateStands ws t dur r
-unfolding evaluated
+unfolding evaluatedTo
 told-by-value ws t dur e = (e, rw e (stands (callGround ws t dur) (evaluateAt t dur (tagsOf ws))))
 
 -- ---- as words

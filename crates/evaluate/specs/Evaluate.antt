@@ -6,8 +6,9 @@ use lib.IntN.{ℤ}
 use Rattle.refusal.specs.Answer.{Stands}
 use Rattle.refusal.specs.declared.Checked.{Checked}
 use Rattle.refusal.specs.declared.Checked.the-variants.{Good, Bad}
+use Rattle.tag.specs.Tag.{mostDepth}
 use Rattle.tag.specs.Decode.{tagsOf}
-use Rattle.table.specs.Ground.{callGround}
+use Rattle.table.specs.Ground.{callGroundTo, callGround}
 use Rattle.state.specs.declared.RenderState.{RenderState}
 use Rattle.state.specs.State.{identity}
 use Rattle.state.specs.Apply.{evaluateAt}
@@ -18,10 +19,14 @@ abbrev pub evaluatedOr : Checked → RenderState → Evaluated
 evaluatedOr (Bad r) st = Evaluated.Refused r
 evaluatedOr Good st = Evaluated.State st
 
--- the state of the tags that the table stands for, unless the table or a time is at fault
-unfoldable pub evaluated : List ℕ → ℤ → ℤ → Evaluated
+-- the state of the tags that the table stands for, unless the table or a time is at fault, as a controller that allows T nested at most d deep has it
+unfoldable pub evaluatedTo : ℕ → List ℕ → ℤ → ℤ → Evaluated
 unfolding evaluateAt
-evaluated ws t dur = evaluatedOr (callGround ws t dur) (evaluateAt t dur (tagsOf ws))
+evaluatedTo d ws t dur = evaluatedOr (callGroundTo d ws t dur) (evaluateAt t dur (tagsOf ws))
+
+-- at the depth that is allowed here
+abbrev pub evaluated : List ℕ → ℤ → ℤ → Evaluated
+evaluated ws t dur = evaluatedTo mostDepth ws t dur
 
 -- the answer's ground, and the state, `identity` beside a refusal
 abbrev pub groundOf : Evaluated → Checked

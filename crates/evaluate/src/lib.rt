@@ -37,7 +37,7 @@ fn apply_all(
     *fault = 0;
     // For the compiler (MEASURED, Shapes for the compiler): the state comes back to where it was given from, in one local.
     let mut st = state::identity();
-    st = evaluators::apply_tags(table, 0, end, 8, st, t, dur, write, fault, out);
+    st = evaluators::apply_tags(table, 0, end, 16, st, t, dur, write, fault, out);
     st
 }
 

@@ -16,17 +16,21 @@ use Rattle.refusal.specs.declared.Refusal.{Refusal}
 use Rattle.refusal.specs.declared.Checked.{Checked}
 use Rattle.refusal.specs.declared.Checked.the-variants.{Good, Bad}
 use Rattle.tag.specs.Decode.{tagsOf}
+use Rattle.tag.specs.Depth.{AtLessDepth}
 use Rattle.tag.proofs.Formed.{bad-good}
+use Rattle.tag.proofs.Deeper.{stored-by}
 use Rattle.table.specs.Ground.{callGround}
 use Rattle.state.specs.declared.RenderState.{RenderState}
 use Rattle.state.specs.Apply.{evaluateAt}
 use Rattle.state.specs.State.{resetTo}
-use Rattle.evaluate.specs.Evaluate.{evaluatedOr, evaluated}
+use Rattle.evaluate.specs.Evaluate.{evaluatedOr, evaluatedTo, evaluated}
+use Rattle.evaluate.specs.declared.Evaluated.{Evaluated}
+use Rattle.evaluate.proofs.Depth.{evaluated-stored}
 use Rattle.style.specs.Style.{textsGround, named, refused, unless}
 use Rattle.style.specs.declared.Place.{Place}
 use Rattle.style.proofs.Places.{Short, texts-short, Fits, named-fits}
 use Rattle.hannuvel.specs.Packed.{wordValue, Unpacks, Says}
-use Rattle.hannuvel.specs.InForce.{styleOf, styleAt, StyleCall}
+use Rattle.hannuvel.specs.InForce.{styleOf, styleAtTo, styleAt, StyleCall}
 use Rattle.hannuvel.specs.Inner.{packed, wordOf, styleWord}
 use Rattle.hannuvel.proofs.Unpacked.{unpacked, plain, Low, call-low}
 
@@ -46,11 +50,11 @@ module _ (ws : List ℕ) (t dur : ℤ) (block own : List ℕ) {c d f : Checked} 
   found = sym (z ∙ ap (λ (g : Checked). firstGround g d) x ∙ ap (firstGround (textsGround block own)) y)
 
   pub at-bad : {g : Refusal} → f ≡ Bad g → styleAt ws t dur block own ≡ refused g
-  unfolding evaluated
+  unfolding evaluatedTo
   at-bad e = styled-bad (textsGround block own) (callGround ws t dur) (evaluateAt t dur (tagsOf ws)) block own (found ∙ e)
 
   pub at-good : f ≡ Good → styleAt ws t dur block own ≡ named (resetTo (evaluateAt t dur (tagsOf ws))) block own
-  unfolding evaluated
+  unfolding evaluatedTo
   at-good e = styled-good (textsGround block own) (callGround ws t dur) (evaluateAt t dur (tagsOf ws)) block own (found ∙ e)
 
 -- an offset and a length in one word
@@ -76,10 +80,13 @@ unless-fits block own Good p s f = f s
 unless-fits block own (Bad r) p s f = s
 
 answer-fits : (ws : List ℕ) (t dur : ℤ) (block own : List ℕ) → let p = styleAt ws t dur block own in Fits (p .checked) p
-unfolding evaluated
+unfolding evaluatedTo
 answer-fits ws t dur block own =
     unless-fits block own (textsGround block own) (styleOf (evaluated ws t dur) block own) (texts-short block own)
     (λ (s : Short block own Good). evaluated-fits (callGround ws t dur) (evaluateAt t dur (tagsOf ws)) block own (call-low ws t dur) s)
+
+style-stored : (ws : List ℕ) (t dur : ℤ) (block own : List ℕ) → AtLessDepth ws (λ k. styleAtTo k ws t dur block own) (λ g. unless (textsGround block own) (refused g))
+style-stored ws t dur block own d h = stored-by (λ (e : Evaluated). unless (textsGround block own) (styleOf e block own)) (evaluated-stored ws t dur d h)
 
 -- so nothing of it is cut off
 style-whole : (c : Checked) (p : Place) → Fits c p → Says (wordOf c (pick (p .«of_block») 1 0) (p .from % 2 ^ 16 * 2 ^ 16 + (p .to - p .from) % 2 ^ 16)) c (pick (p .«of_block») 1 0) (p .from * 2 ^ 16 + (p .to - p .from))
@@ -110,4 +117,4 @@ module _ (ws : List ℕ) (t dur : ℤ) (block own : List ℕ) {r : ℕ} (w : r �
       (rw (v, mul-add-div-right some (answer .from) (answer .to - answer .from), div-eq-of-lt short, add-zero), rw (v, mul-add-mod-self-right (answer .from) (2 ^ 16) (answer .to - answer .from), mod-eq-of-lt short))
 
   pub style-says : StyleCall ws t dur block own r
-  style-says = record { answered = said; part = part-back }
+  style-says = record { answered = said; part = part-back; stored = style-stored ws t dur block own }

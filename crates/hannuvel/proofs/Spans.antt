@@ -20,7 +20,7 @@ use Rattle.refusal.specs.Answer.{numberIn, groundOf, roomFor, unlessBad, answer
 use Rattle.tag.specs.WellFormed.{tableGround}
 use Rattle.table.specs.Ground.{inTime}
 use Rattle.karaoke.specs.declared.KaraokeSpan.{KaraokeSpan}
-use Rattle.karaoke.specs.Answer.{spansOf, answer}
+use Rattle.karaoke.specs.Answer.{spansOf, answerTo, answer}
 use Rattle.karaoke.specs.Progress as Progress
 use Rattle.karaoke.specs.Progress.{whole, progressIn, instantGround, progressedOr, progressed, progressOf}
 use Rattle.karaoke.proofs.Filling.{few-spans}
@@ -37,7 +37,7 @@ small ws places Good e l =
 small ws places (Bad r) e l = l
 
 pub spans-say : (ws : List ℕ) (places : ℕ) {r : ℕ} → r ≡ answerWord (answer ws places) → SaysAnswer r (answer ws places)
-unfolding answer
+unfolding answerTo
 spans-say ws places e =
     let a = answer ws places in
     rw e (plain (numberIn (groundOf a)) (answerValue a) (le-trans (small ws places (tableGround ws) refl (table-low ws (tableGround ws) refl)) (lit≤ tt)))

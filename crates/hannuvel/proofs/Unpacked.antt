@@ -24,16 +24,17 @@ use Rattle.tag.specs.declared.Record.{Record}
 use Rattle.tag.specs.WellFormed.{recordsOf, holds, tableGround, AtFault, range, deep, past, later, inner, behind}
 use Rattle.tag.specs.Decode.{tagsOf}
 use Rattle.tag.proofs.Formed.{Named, record-at-fault, too-many, broken-last, ground-first}
-use Rattle.table.specs.Ground.{inTime, timeGround, Fine, callGround}
+use Rattle.table.specs.Ground.{inTime, timeGround, Fine, callGroundTo, callGround}
 use Rattle.state.specs.declared.RenderState.{RenderState}
 use Rattle.state.specs.Apply.{evaluateAt}
 use Rattle.evaluate.specs.Evaluate as Evaluate
-use Rattle.evaluate.specs.Evaluate.{evaluatedOr, evaluated}
+use Rattle.evaluate.specs.Evaluate.{evaluatedOr, evaluatedTo, evaluated}
 use Rattle.marks.specs.declared.Mark.{Mark}
 use Rattle.marks.specs.declared.Marked.{Marked}
 use Rattle.marks.specs.Marks.{nextMark}
+use Rattle.marks.proofs.Depth.{marked-stored}
 use Rattle.marks.specs.Answer as Marks
-use Rattle.marks.specs.Answer.{markedOr, marked, markOf, Exact}
+use Rattle.marks.specs.Answer.{markedOr, markedTo, marked, markOf, Exact}
 use Rattle.read.specs.declared.Span.{Span}
 use Rattle.read.proofs.Parts.{SpanIn}
 use Rattle.read.proofs.Places.{few-read, ground-within}
@@ -120,7 +121,7 @@ fault-inside (later h f) = let g = fault-inside f in omega arith
 fault-inside (inner {r = r} {l = l} h f) = let g = fault-inside f in omega (arith, length-take (holds r) l)
 fault-inside (behind {r = r} {l = l} h f) = let g = fault-inside f in omega (arith, length-drop (holds r) l)
 
-named-place : (ws : List ℕ) {b : Refusal} → Named ws b → placeOf b ≤ mostPlaces
+named-place : (ws : List ℕ) {d : ℕ} {b : Refusal} → Named ws d b → placeOf b ≤ mostPlaces
 named-place ws (record-at-fault f) = rw (f .is) (omega (arith, fault-inside (f .fault), length-take mostPlaces (recordsOf ws)))
 named-place ws (too-many f h) = le-refl mostPlaces
 named-place ws (broken-last f h e) = h
@@ -138,7 +139,7 @@ first-low Good b h k = k
 first-low (Bad r) b h k = h
 
 pub call-low : (ws : List ℕ) (t dur : ℤ) → Low (callGround ws t dur)
-unfolding callGround timeGround
+unfolding callGroundTo timeGround
 call-low ws t dur = first-low (tableGround ws) (timeGround t dur) (table-low ws (tableGround ws) refl) (picked Low (both (inTime t) (inTime dur)) Good (Bad TimeOutOfRange) tt (lit≤ tt))
 
 -- `hannuvel_evaluate_at`
@@ -152,7 +153,7 @@ low-place (Bad r) l = le-trans l (lit≤ tt)
 
 module _ (ws : List ℕ) (t dur : ℤ) {r : ℕ} where
   pub evaluated-says : {c : Checked} → c ≡ Evaluate.groundOf (evaluated ws t dur) → r ≡ wordOf c 0 0 → Says r (Evaluate.groundOf (evaluated ws t dur)) 0 0
-  unfolding evaluated
+  unfolding evaluatedTo
   evaluated-says e w =
       let k = e ∙ evaluated-ground (callGround ws t dur) (evaluateAt t dur (tagsOf ws)) in
       rw (w, ← e, k) (says (callGround ws t dur) 0 0 (low-place (callGround ws t dur) (call-low ws t dur)) (λ g. (lit< tt, lit< tt)))
@@ -170,11 +171,12 @@ names (Mark.At a) s u = (u, ap ofWord (u .value) ∙ ofWord-toWord a (signed-fit
 
 module _ (ws : List ℕ) (t dur : ℤ) {r : ℕ} {m : Marked} (e : m ≡ marked ws t dur) (w : r ≡ markedWord m) (s : SignedMark (markOf m)) where
   said : Says r (Marks.groundOf (marked ws t dur)) (markExtra (markOf (marked ws t dur))) (markValue (markOf (marked ws t dur)))
-  unfolding marked
+  unfolding markedTo
   said = rw (w, e) (marked-says (callGround ws t dur) (nextMark t dur (tagsOf ws)) (call-low ws t dur) (rw e at s))
 
   pub marking : (Fine ws t dur → Exact ws t dur m) → MarkingCall ws t dur r
   marking x = record {
     answered = said;
     exact = λ f. let y = x f in record { names = names (nextMark t dur (tagsOf ws)) (rw (y .answer) at s) (rw (sym e ∙ y .answer) at said); earliest = y .earliest };
+    stored = marked-stored ws t dur;
   }

@@ -5,20 +5,25 @@ use Prim.Native.Nat.{ℕ}
 use lib.IntN.{ℤ}
 use Rattle.float.specs.Float.{toWord, ofWord}
 use Rattle.tag.specs.Decode.{tagsOf}
+use Rattle.tag.specs.Depth.{AtLessDepth}
 use Rattle.table.specs.Ground.{Fine}
-use Rattle.evaluate.specs.Evaluate.{evaluated, groundOf, stateAfter}
+use Rattle.evaluate.specs.declared.Evaluated.{Evaluated}
+use Rattle.evaluate.specs.Evaluate.{evaluatedTo, evaluated, groundOf, stateAfter}
 use Rattle.marks.specs.Answer as Marks
-use Rattle.marks.specs.Answer.{marked, markOf}
+use Rattle.marks.specs.Answer.{markedTo, marked, markOf}
 use Rattle.marks.specs.Marks.{Interval, marks, nextMark, Earliest}
 use Rattle.marks.specs.declared.Mark.{Mark}
+use Rattle.marks.specs.declared.Marked.{Marked}
 use Rattle.hannuvel.specs.Packed.{wordValue, Unpacks, Says}
 
 -- ---- `hannuvel_evaluate_at`
 
--- what the call says: the number r, which has no extra and no value, and the lent words v before and u after
+-- what the call says: the number r, which has no extra and no value, and the lent words v before and u after; and 02, N7, of controllers that
+-- allow T nested less deep
 pub record EvaluatingCall (ws : List ℕ) (t dur : ℤ) (v : List ℕ) (r : ℕ) (u : List ℕ) : Type 0 where
   pub answered : Says r (groundOf (evaluated ws t dur)) 0 0
   pub state : u ≡ stateAfter (evaluated ws t dur) v
+  pub stored : AtLessDepth ws (λ k. evaluatedTo k ws t dur) (λ g. Evaluated.Refused g)
 
 -- ---- `hannuvel_next_mark`
 
@@ -41,7 +46,9 @@ pub record NamesEarliest (l : List Interval) (t : ℤ) (r : ℕ) (m : Mark) : Ty
   pub names : Names r m
   pub earliest : Earliest l t m
 
--- what the call says: the number r, and on every well-formed table, both times being in range, the earliest later mark of its tags
+-- what the call says: the number r, and on every well-formed table, both times being in range, the earliest later mark of its tags; and 02, N7, of
+-- controllers that allow T nested less deep
 pub record MarkingCall (ws : List ℕ) (t dur : ℤ) (r : ℕ) : Type 0 where
   pub answered : let m = marked ws t dur in Says r (Marks.groundOf m) (markExtra (markOf m)) (markValue (markOf m))
   pub exact : Fine ws t dur → NamesEarliest (marks dur (tagsOf ws)) t r (nextMark t dur (tagsOf ws))
+  pub stored : AtLessDepth ws (λ k. markedTo k ws t dur) (λ g. Marked.Refused g)

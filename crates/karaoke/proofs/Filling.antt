@@ -23,7 +23,7 @@ use Rattle.tag.specs.WellFormed.{recordsOf, tableGround}
 use Rattle.tag.proofs.Formed.{ground-formed}
 use Rattle.karaoke.specs.declared.KaraokeSpan.{KaraokeSpan}
 use Rattle.karaoke.specs.declared.Walk.{Walk}
-use Rattle.karaoke.specs.Answer.{spansOf, answer, written, listAfter, after, spanWidth, spanWords, placesOf, laidSpans, wordsAfter}
+use Rattle.karaoke.specs.Answer.{spansOf, answerTo, answer, written, listAfter, after, spanWidth, spanWords, placesOf, laidSpans, wordsAfterTo, wordsAfter}
 use Rattle.karaoke.specs.Inner.{beatsFrom, begun, spansLeft, writtenIn, counted}
 use Rattle.karaoke.proofs.Beats.{beats-few, length-spans}
 use Rattle.karaoke.proofs.Flat.{flat}
@@ -71,7 +71,7 @@ module _ (ws : List ℕ) where
       off : {r : Refusal} → Outcome (Refused r)
 
     outcome-is : Outcome (answer ws places)
-    unfolding answer
+    unfolding answerTo
     outcome-is = go (tableGround ws) refl
       where
         room : spansOf ws ≡ allSpans → (b : Bool) → leb (length (spansOf ws)) (min places mostPlaces) ≡ b → Outcome (pick b (Written (length (spansOf ws))) (Refused (NoRoom (length (spansOf ws)))))
@@ -87,7 +87,7 @@ module _ (ws : List ℕ) where
 
     module _ {a : Answer} (e : a ≡ counted ws) where
       pub refused-table : {r : Refusal} → a ≡ Refused r → Refused r ≡ answer ws places
-      unfolding answer
+      unfolding answerTo
       refused-table {r} k = go (tableGround ws) (sym k ∙ e)
         where
           go : (c : Checked) → Refused r ≡ unlessBad c (Written (length (beatsFrom ws 0))) → Refused r ≡ unlessBad c (roomFor (length (spansOf ws)) places)
@@ -106,11 +106,11 @@ module _ (ws : List ℕ) where
         needed = ap length (flat ws (good .0)) ∙ length-all ∙ sym (good .1)
 
         pub room-enough : n ≤ m → Written n ≡ answer ws places
-        unfolding answer
+        unfolding answerTo
         room-enough h = rw (good .0, needed, le-leb n (min places mostPlaces) (omega arith))
 
         pub room-lacking : m < n → Refused (NoRoom n) ≡ answer ws places
-        unfolding answer
+        unfolding answerTo
         room-lacking h = rw (good .0, needed, lt-leb n (min places mostPlaces) (omega arith))
 
   -- ---- one span after the other
@@ -164,7 +164,7 @@ module _ (ws : List ℕ) where
     lets off = (omega arith, omega arith)
 
   pub words-done : (t : List ℕ) (a : Answer) → a ≡ answer ws (placesOf t) → laidSpans t (take (writtenIn a) allSpans) ≡ wordsAfter ws t
-  unfolding wordsAfter
+  unfolding wordsAfterTo
   words-done t a e = rw (sym e) (go a (outcome (placesOf t) e))
     where
       go : (a : Answer) → Outcome (placesOf t) a → laidSpans t (take (writtenIn a) allSpans) ≡ tableAfter a (laidSpans t (spansOf ws)) t

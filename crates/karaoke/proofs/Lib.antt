@@ -1,5 +1,6 @@
 pub mod Beats
 pub mod Counting
+pub mod Depth
 pub mod Flat
 pub mod Filling
 pub mod Passing

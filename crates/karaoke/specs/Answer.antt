@@ -4,11 +4,13 @@ use mathlib.Core.List.{List, [], _∷_, _++_}
 use Prim.Native.Nat.{ℕ, _/_}
 use lib.ListN.{length, drop}
 use Rattle.rows.specs.Rows.{laidRows}
+use Rattle.refusal.specs.declared.Refusal.{Refusal}
 use Rattle.refusal.specs.declared.Answer.{Answer}
 use Rattle.refusal.specs.declared.Answer.the-variants.{Written, Refused}
 use Rattle.refusal.specs.Answer.{roomFor, unlessBad, tableAfter}
 use Rattle.tag.specs.Table.{kindWord}
-use Rattle.tag.specs.WellFormed.{tableGround}
+use Rattle.tag.specs.Tag.{mostDepth}
+use Rattle.tag.specs.WellFormed.{tableGroundTo}
 use Rattle.tag.specs.Decode.{tagsOf}
 use Rattle.karaoke.specs.declared.KaraokeSpan.{KaraokeSpan}
 use Rattle.karaoke.specs.Karaoke.{karaokeSpans}
@@ -17,9 +19,14 @@ use Rattle.karaoke.specs.Karaoke.{karaokeSpans}
 abbrev pub spansOf : List ℕ → List KaraokeSpan
 spansOf ws = karaokeSpans (tagsOf ws)
 
--- grounds 5 and 9, where so many places are lent; "count: the number needed for the whole input"
-unfoldable pub answer : List ℕ → ℕ → Answer
-answer ws places = unlessBad (tableGround ws) (roomFor (length (spansOf ws)) places)
+-- grounds 5 and 9, where so many places are lent, as a controller that allows T nested at most d deep has them; "count: the number needed for the
+-- whole input"
+unfoldable pub answerTo : ℕ → List ℕ → ℕ → Answer
+answerTo d ws places = unlessBad (tableGroundTo d ws) (roomFor (length (spansOf ws)) places)
+
+-- at the depth that is allowed here
+abbrev pub answer : List ℕ → ℕ → Answer
+answer ws places = answerTo mostDepth ws places
 
 -- ---- a list of spans
 
@@ -34,7 +41,7 @@ listAfter (Refused r) new old = old
 
 -- the list afterwards
 unfoldable pub after : List ℕ → List KaraokeSpan → List KaraokeSpan
-unfolding answer
+unfolding answerTo
 after ws l = listAfter (answer ws (length l)) (spansOf ws) l
 
 -- ---- the same as words, for the C interface
@@ -52,10 +59,21 @@ placesOf t = length t / spanWidth
 abbrev pub laidSpans : List ℕ → List KaraokeSpan → List ℕ
 laidSpans t l = laidRows spanWidth spanWords t l
 
--- the words afterwards
-unfoldable pub wordsAfter : List ℕ → List ℕ → List ℕ
-unfolding answer
-wordsAfter ws t = tableAfter (answer ws (placesOf t)) (laidSpans t (spansOf ws)) t
+-- the words afterwards, as a controller that allows T nested at most d deep leaves them
+unfoldable pub wordsAfterTo : ℕ → List ℕ → List ℕ → List ℕ
+unfolding answerTo
+wordsAfterTo d ws t = tableAfter (answerTo d ws (placesOf t)) (laidSpans t (spansOf ws)) t
+
+-- at the depth that is allowed here
+abbrev pub wordsAfter : List ℕ → List ℕ → List ℕ
+wordsAfter ws t = wordsAfterTo mostDepth ws t
+
+-- the answer and the words afterwards; and these where it is refused
+abbrev pub bothTo : ℕ → List ℕ → List ℕ → Answer × List ℕ
+bothTo d ws t = (answerTo d ws (placesOf t), wordsAfterTo d ws t)
+
+abbrev pub bothRefused : List ℕ → Refusal → Answer × List ℕ
+bothRefused t r = (Refused r, t)
 
 -- ---- what the two calls say
 

@@ -11,12 +11,12 @@ use Rattle.tag.specs.declared.KaraokeKind.the-variants.{Fill, Sweep, Outline}
 use Rattle.tag.specs.Tag.{absent, AnimatedTag, Fs, Karaoke, cs, T, Tags, none, and}
 use Rattle.tag.specs.Table.{encode, tableWords}
 use Rattle.tag.specs.Range.{rows, inRange}
-use Rattle.tag.specs.WellFormed.{recordsTo, faultIn, excess, tableGround}
+use Rattle.tag.specs.WellFormed.{recordsTo, faultIn, excess, tableGroundTo}
 use Rattle.tag.specs.Decode.{decoders, decodeOne, decodeIn}
 use Rattle.refusal.specs.Answer.{numberIn, groundOf, answerValue}
 use Rattle.karaoke.specs.declared.KaraokeSpan.{KaraokeSpan}
 use Rattle.karaoke.specs.Karaoke.{ms, karaokeSpans}
-use Rattle.karaoke.specs.Answer.{answer, wordsAfter}
+use Rattle.karaoke.specs.Answer.{answer, wordsAfterTo, wordsAfter}
 use Rattle.karaoke.specs.Progress as Progress
 use Rattle.karaoke.specs.Progress.{progressed, progressOf}
 
@@ -59,11 +59,11 @@ abbrev nines : List ℕ
 nines = 9 ∷ 9 ∷ 9 ∷ 9 ∷ 9 ∷ []
 
 small : (numberIn (groundOf (answer table 1)) ∷ answerValue (answer table 1) ∷ wordsAfter table nines) ≡ 9 ∷ 2 ∷ nines
-unfolding wordsAfter karaokeSpans laidRows tableGround faultIn excess recordsTo inRange rows decodeIn decodeOne decoders tableWords encode
+unfolding wordsAfterTo karaokeSpans laidRows tableGroundTo faultIn excess recordsTo inRange rows decodeIn decodeOne decoders tableWords encode
 small = refl
 
 large : (numberIn (groundOf (answer table 3)) ∷ answerValue (answer table 3) ∷ wordsAfter table (9 ∷ 9 ∷ 9 ∷ nines)) ≡ 0 ∷ 2 ∷ 0 ∷ 0 ∷ 500 ∷ 1 ∷ 500 ∷ 750 ∷ 9 ∷ 9 ∷ []
-unfolding wordsAfter karaokeSpans laidRows tableGround faultIn excess recordsTo inRange rows decodeIn decodeOne decoders tableWords encode
+unfolding wordsAfterTo karaokeSpans laidRows tableGroundTo faultIn excess recordsTo inRange rows decodeIn decodeOne decoders tableWords encode
 large = refl
 
 -- progress, as bits, at some instants

@@ -12,7 +12,7 @@ use Rattle.table.proofs.Grounds.{fine-good}
 use Rattle.marks.specs.declared.Mark.{Mark}
 use Rattle.marks.specs.declared.Marked.{Marked}
 use Rattle.marks.specs.Marks.{nextMark}
-use Rattle.marks.specs.Answer.{markedOr, marked, groundOf, markOf, MarkStands, Exact}
+use Rattle.marks.specs.Answer.{markedOr, markedTo, marked, groundOf, markOf, MarkStands, Exact}
 use Rattle.marks.proofs.Earliest.{next-earliest}
 
 stands : (c : Checked) (m : Mark) → Stands c Mark.None m (groundOf (markedOr c m)) (markOf (markedOr c m))
@@ -20,5 +20,5 @@ stands Good m = record { ground = refl; value = refl }
 stands (Bad r) m = record { ground = refl; value = refl }
 
 pub told : (ws : List ℕ) (t dur : ℤ) (r : Marked) → r ≡ marked ws t dur → (r ≡ marked ws t dur) × (MarkStands ws t dur r × (Fine ws t dur → Exact ws t dur r))
-unfolding marked
+unfolding markedTo
 told ws t dur r e = (e, (rw e (stands (callGround ws t dur) (nextMark t dur (tagsOf ws))), λ f. record { answer = e ∙ rw (fine-good ws t dur f); earliest = next-earliest t dur (tagsOf ws) }))

@@ -6,8 +6,9 @@ use lib.IntN.{ℤ}
 use Rattle.refusal.specs.Answer.{Stands}
 use Rattle.refusal.specs.declared.Checked.{Checked}
 use Rattle.refusal.specs.declared.Checked.the-variants.{Good, Bad}
+use Rattle.tag.specs.Tag.{mostDepth}
 use Rattle.tag.specs.Decode.{tagsOf}
-use Rattle.table.specs.Ground.{callGround}
+use Rattle.table.specs.Ground.{callGroundTo, callGround}
 use Rattle.marks.specs.declared.Mark.{Mark}
 use Rattle.marks.specs.declared.Marked.{Marked}
 use Rattle.marks.specs.Marks.{marks, nextMark, Earliest}
@@ -16,10 +17,15 @@ abbrev pub markedOr : Checked → Mark → Marked
 markedOr (Bad r) m = Marked.Refused r
 markedOr Good m = Marked.Next m
 
--- the earliest later mark of the tags that the table stands for, unless the table or a time is at fault
-unfoldable pub marked : List ℕ → ℤ → ℤ → Marked
+-- the earliest later mark of the tags that the table stands for, unless the table or a time is at fault, as a controller that allows T nested at
+-- most d deep has it
+unfoldable pub markedTo : ℕ → List ℕ → ℤ → ℤ → Marked
 unfolding nextMark
-marked ws t dur = markedOr (callGround ws t dur) (nextMark t dur (tagsOf ws))
+markedTo d ws t dur = markedOr (callGroundTo d ws t dur) (nextMark t dur (tagsOf ws))
+
+-- at the depth that is allowed here
+abbrev pub marked : List ℕ → ℤ → ℤ → Marked
+marked ws t dur = markedTo mostDepth ws t dur
 
 -- the answer's ground, and the mark, none beside a refusal
 abbrev pub groundOf : Marked → Checked

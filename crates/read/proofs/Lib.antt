@@ -11,5 +11,6 @@ pub mod Inside
 pub mod Words
 pub mod Fine
 pub mod Parts
+pub mod Seen
 pub mod Ranges
 pub mod Places

@@ -23,6 +23,7 @@ use Rattle.tag.specs.declared.Record.{Record}
 use Rattle.tag.proofs.Table.{length-laid, laid-t, laid-step}
 use Rattle.tag.specs.Tag.{T, Tags, and, count}
 use Rattle.tag.proofs.Tags.{encode-append, count-none, count-and, count-length, count-single, count-append}
+use Rattle.plain.specs.Names.{keyAt, tKey}
 use Rattle.plain.specs.Plain.{One, no, long, kept, far, plainAt, orZero, timeOf}
 use Rattle.plain.specs.Inner.{keptOf, cutWord}
 use Rattle.plain.specs.declared.Kept.{Kept}
@@ -30,25 +31,30 @@ use Rattle.plain.proofs.Numbers.{Back, f32-back}
 use Rattle.plain.proofs.Gives.{Single}
 use Rattle.plain.proofs.Bridge.{plain-single}
 use Rattle.read.specs.declared.Out.{Out}
+use Rattle.read.specs.declared.Head.{Head}
 use Rattle.read.specs.declared.Heads.{Heads}
 use Rattle.read.specs.declared.Peeled.{Peeled}
-use Rattle.read.specs.Block.{Got, nothing, join, oneGot, Peel, peelHead, peel, peelTo, headTimes, headAccel, headEnd, parse, tAt}
-use Rattle.read.specs.Inner.{headed, headsFrom, noHeads, tWords, Peels, keptRecords, keptGot, joinedOut, aroundOut, Told}
+use Rattle.read.specs.Block.{Got, nothing, join, oneGot, Peel, peelHead, peel, peelTo, headTimes, headAccel, headEnd, tagAt, parse, tAt}
+use Rattle.read.specs.Inner.{headed, headsFrom, noHeads, tWords, Peels, foundOf, Seen, seenOf, keptRecords, keptGot, joinedOut, aroundOut, seenIn, Told}
 use Rattle.read.specs.Reading.{keptTags}
-use Rattle.read.proofs.Walk.{t-more}
+use Rattle.read.proofs.Walk.{tag-plain, t-more}
 
 -- ---- a plain tag
 
-told-one : (i : ℕ) (x : One) (t : List ℕ) (most : ℕ) → 1 ≤ most → Single x → Told t (oneGot i x) most (keptGot i (keptOf x)) (laid t (keptRecords (keptOf x)))
+one-seen : (i : ℕ) (x : One) (t : List ℕ) → Single x → (keptGot i (keptOf x) ≡ seenIn (oneGot i x)) × (laid t (keptRecords (keptOf x)) ≡ laid t (encode (oneGot i x .tags)))
 unfolding encode laidRows records count
-told-one i no t most h s = record { out = refl; table = refl; few = omega arith }
-told-one i (long p) t most h s = record { out = refl; table = refl; few = omega arith }
-told-one i (kept x) t most h s = record { out = rw (count-single x s); table = rw s; few = h }
-told-one i (far x) t most h s = record { out = rw (count-single x s); table = rw s; few = h }
+one-seen i no t s = (refl, refl)
+one-seen i (long p) t s = (refl, refl)
+one-seen i (kept x) t s = (rw (count-single x s), rw s)
+one-seen i (far x) t s = (rw (count-single x s), rw s)
 
-pub plain-told : (s : List ℕ) (i a b p q : ℕ) (t : List ℕ) (most : ℕ) (k : Kept) (r : Out) (u : List ℕ) → 1 ≤ most → k ≡ keptOf (plainAt s a b p q) → r ≡ keptGot i k → u ≡ laid t (keptRecords k)
-    → Told t (oneGot i (plainAt s a b p q)) most r u
-plain-told s i a b p q t most k r u h e f g = rw (f, g, e) (told-one i (plainAt s a b p q) t most h (plain-single s a b p q))
+module _ (inner : ℕ → ℕ → Got) (s : List ℕ) (i : ℕ) (h : Head) (p : ℕ) (t : List ℕ) (k : Kept) (r : Out) (u : List ℕ) where
+  pub plain-told : ¬ (keyAt s (h .name) (h .end) ≡ tKey) → h .p ≡ p → k ≡ keptOf (plainAt s (h .name) (h .end) p (h .q)) → (seenOf r ≡ keptGot i k) × (u ≡ laid t (keptRecords k)) × (r .n ≤ 1)
+      → Told t (tagAt inner s i h) (h .q - h .p + 1) r u
+  plain-told n e f g =
+      let x = plainAt s (h .name) (h .end) p (h .q) in
+      let y = one-seen i x t (plain-single s (h .name) (h .end) p (h .q)) in
+      rw (tag-plain inner s i h n, e) (record { out = g .0 ∙ rw f (y .0); table = g .1 ∙ rw f (y .1); few = omega arith })
 
 -- ---- a \t
 
@@ -104,24 +110,23 @@ length-part t rs k h = simp (length-append, length-laid) (omega (arith, length-t
 -- what `parse_t` says, from what its calls say
 module _ (d : ℕ) (s : List ℕ) (p q : ℕ) (t : List ℕ) (l : Peeled) (o r : Out) (k : ℕ) (x : Record) (u v : List ℕ) where
   pub t-told : ¬ (d ≡ 0) → Peels p q (peelTo s p q) l → Told (take (length t - k) (drop k t)) (parse (d - 1) s (l .rest) q) (q - l .rest) o u → k ≡ min width (length t)
-      → x ≡ tWords (l .heads) (o .n) → v ≡ laid (take k t ++ (u ++ drop (length t - k) (drop k t))) (x ∷ []) → r ≡ aroundOut (l .long) o
+      → x ≡ tWords (l .heads) (o .n) → v ≡ laid (take k t ++ (u ++ drop (length t - k) (drop k t))) (x ∷ []) → seenOf r ≡ aroundOut (l .long) (seenOf o)
       → Told t (tAt d s p q) (q - p + 1) r v
   unfolding encode
   t-told h g a e b c f =
       let w = peelTo s p q in
       let i = parse (d - 1) s (w .rest) q in
       let a2 : Told (take (length t - k) (drop k t)) i (q - l .rest) o u = subst (λ (y : ℕ). Told (take (length t - k) (drop k t)) (parse (d - 1) s y q) (q - l .rest) o u) (g .rest) a in
-      let n : o .n ≡ keptTags i = ap (λ (y : Out). y .n) (a2 .out) in
-      let m : o .long ≡ i .long = ap (λ (y : Out). y .long) (a2 .out) in
-      let j : o .far ≡ i .far = ap (λ (y : Out). y .far) (a2 .out) in
+      let n : o .n ≡ keptTags i = ap (λ (y : Seen). y .n) (a2 .out) in
+      let rn : r .n ≡ o .n + 1 = ap (λ (y : Seen). y .n) f in
       let tb = part-table t u (encode (i .tags)) k (omega arith) (a2 .table) in
       let y : x ≡ tRecord (headTimes (w .heads)) (headAccel (w .heads)) (keptTags i) = b ∙ rw (g .heads, n) (t-words (peel-backs s q (suc (q - trimStart s p q)) (trimStart s p q)) (keptTags i)) in
       let z : v ≡ laid t (x ∷ encode (i .tags)) = c ∙ ap (λ (y : List ℕ). laid y (x ∷ [])) tb ∙ laid-t t x (encode (i .tags)) k e in
       let cn : count (and (T (headTimes (w .heads)) (headAccel (w .heads)) (i .tags)) Tags.none) ≡ keptTags i + 1 = omega (arith, count-and (T (headTimes (w .heads)) (headAccel (w .heads)) (i .tags)) Tags.none, count-none) in
       record {
-        out = rw (f, t-more d s p q h, cn, n, m, j, g .long);
+        out = f ∙ ap (λ (y : Seen). aroundOut (l .long) y) (a2 .out) ∙ rw (t-more d s p q h, cn, g .long);
         table = rw (t-more d s p q h, append-nil (encode (i .tags)), ← y) z;
-        few = rw f (omega (arith, a .few, g .low));
+        few = omega (arith, a .few, g .low);
       }
 
 -- ---- a block
@@ -135,7 +140,7 @@ first-end Nowhere = refl
 first-end (At p) = refl
 
 -- where a block's reading stands: `all` is what it gives, `rest` what is still to come, t the table and o the result now
-pub record Turning (t₀ : List ℕ) (all rest : Got) (t : List ℕ) (o : Out) : Type 0 where
+pub record Turning (t₀ : List ℕ) (all rest : Got) (t : List ℕ) (o : Seen) : Type 0 where
   pub len : length t ≡ length t₀
   pub table : laid t₀ (encode (all .tags)) ≡ take (min (width * o .n) (length t)) t ++ laid (drop (min (width * o .n) (length t)) t) (encode (rest .tags))
   pub count : o .n + keptTags rest ≡ keptTags all
@@ -145,16 +150,16 @@ pub record Turning (t₀ : List ℕ) (all rest : Got) (t : List ℕ) (o : Out) :
 pub turning-start : (t : List ℕ) (g : Got) → Turning t g g t (record { n = 0; long = Nowhere; far = Nowhere })
 turning-start t g = record { len = refl; table = simp zero-min; count = omega arith; long = refl; far = refl }
 
-pub turning-turn : {t₀ t u : List ℕ} {all rest g : Got} {o o′ r : Out} {k most : ℕ} → Turning t₀ all (join g rest) t o → k ≡ min (width * o .n) (length t)
-    → Told (take (length t - k) (drop k t)) g most o′ u → r ≡ joinedOut o o′ → Turning t₀ all rest (take k t ++ (u ++ drop (length t - k) (drop k t))) r
-turning-turn {t₀} {t} {u} {all} {rest} {g} {o} {o′} {r} {k} {most} l e a f =
+pub turning-turn : {t₀ t u : List ℕ} {all rest g : Got} {o r : Seen} {o′ : Out} {k most : ℕ} → Turning t₀ all (join g rest) t o → k ≡ min (width * o .n) (length t)
+    → Told (take (length t - k) (drop k t)) g most o′ u → r ≡ joinedOut o (seenOf o′) → Turning t₀ all rest (take k t ++ (u ++ drop (length t - k) (drop k t))) r
+turning-turn {t₀} {t} {u} {all} {rest} {g} {o} {r} {o′} {k} {most} l e a f =
     let x = encode (g .tags) in
     let w = part-table t u x k (omega arith) (a .table) in
     let n = length-part t x k (omega arith) in
-    let c : o′ .n ≡ count (g .tags) = ap (λ (y : Out). y .n) (a .out) in
+    let c : o′ .n ≡ count (g .tags) = ap (λ (y : Seen). y .n) (a .out) in
     let m : o′ .n ≡ length x = c ∙ count-length (g .tags) in
-    let b : o′ .long ≡ g .long = ap (λ (y : Out). y .long) (a .out) in
-    let d : o′ .far ≡ g .far = ap (λ (y : Out). y .far) (a .out) in
+    let b : foundOf (o′ .long) ≡ g .long = ap (λ (y : Seen). y .long) (a .out) in
+    let d : foundOf (o′ .far) ≡ g .far = ap (λ (y : Seen). y .far) (a .out) in
     let ea = encode-append (g .tags) (rest .tags) in
     let s = laid-step t x (encode (rest .tags)) (o .n) k (min (width * (o .n + length x)) (length t)) e refl in
     record {
@@ -165,10 +170,10 @@ turning-turn {t₀} {t} {u} {all} {rest} {g} {o} {o′} {r} {k} {most} l e a f =
       far = rw (f, d) (l .far ∙ first-assoc (o .far) (g .far) (rest .far));
     }
 
-pub turning-end : {t₀ t : List ℕ} {all : Got} {o : Out} {most : ℕ} → Turning t₀ all nothing t o → o .n ≤ most → Told t₀ all most o t
+pub turning-end : {t₀ t : List ℕ} {all : Got} {o : Out} {most : ℕ} → Turning t₀ all nothing t (seenOf o) → o .n ≤ most → Told t₀ all most o t
 unfolding encode laidRows
 turning-end {t₀} {t} {all} {o} {most} l h =
     let m : keptTags all ≡ o .n = omega (arith, l .count, count-none) in
-    let b : all .long ≡ o .long = l .long ∙ first-end (o .long) in
-    let d : all .far ≡ o .far = l .far ∙ first-end (o .far) in
+    let b = l .long ∙ first-end (foundOf (o .long)) in
+    let d = l .far ∙ first-end (foundOf (o .far)) in
     record { out = rw (m, b, d); table = sym (l .table ∙ take-append-drop (min (width * o .n) (length t)) t); few = h }

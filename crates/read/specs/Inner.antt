@@ -1,7 +1,7 @@
 -- What the inner functions say, in the code's words: nothing here is a promise to a caller.
 use mathlib.Core.Path.{_≡_}
 use mathlib.Core.List.{List, [], _∷_}
-use Prim.Native.Nat.{ℕ, _+_, _≤_}
+use Prim.Native.Nat.{ℕ, _+_, _≤_, _<_}
 use lib.Dec.{eqb}
 use lib.Ieee.{Float}
 use Rattle.scan.specs.Scan.{pick}
@@ -69,7 +69,32 @@ pub record Peels (p q : ℕ) (l : Peel) (r : Peeled) : Type 0 where
   pub low : p ≤ r .rest
   pub high : r .rest ≤ q
 
+-- ---- places as words
+
+-- the word that stands for no place
+abbrev pub noPlace : ℕ
+noPlace = 4294967295
+
+-- the place that a word stands for
+abbrev pub foundOf : ℕ → Found
+foundOf w = pick (eqb w noPlace) Nowhere (At w)
+
+-- a place that a word can stand for
+abbrev pub InWord : Found → Type 0
+InWord Nowhere = Unit
+InWord (At p) = p < noPlace
+
 -- ---- what readers give
+
+-- how many records there are, where the first numeral is that is too long, and where the first \fade whose times lie too far off
+pub record Seen : Type 0 where
+  pub n : ℕ
+  pub long : Found
+  pub far : Found
+
+-- what the code's result stands for
+abbrev pub seenOf : Out → Seen
+seenOf o = record { n = o .n; long = foundOf (o .long); far = foundOf (o .far) }
 
 -- a plain tag
 abbrev pub keptRecords : Kept → List Record
@@ -78,27 +103,27 @@ keptRecords (Long p) = []
 keptRecords (Tag r) = r ∷ []
 keptRecords (Far r) = r ∷ []
 
-abbrev pub keptGot : ℕ → Kept → Out
+abbrev pub keptGot : ℕ → Kept → Seen
 keptGot i No = record { n = 0; long = Nowhere; far = Nowhere }
 keptGot i (Long p) = record { n = 0; long = At p; far = Nowhere }
 keptGot i (Tag r) = record { n = 1; long = Nowhere; far = Nowhere }
 keptGot i (Far r) = record { n = 1; long = Nowhere; far = At i }
 
 -- one reader behind another
-abbrev pub joinedOut : Out → Out → Out
+abbrev pub joinedOut : Seen → Seen → Seen
 joinedOut a b = record { n = a .n + b .n; long = firstOf (a .long) (b .long); far = firstOf (a .far) (b .far) }
 
 -- a \t around what is inside it
-abbrev pub aroundOut : Found → Out → Out
+abbrev pub aroundOut : Found → Seen → Seen
 aroundOut l o = record { n = o .n + 1; long = firstOf l (o .long); far = o .far }
 
--- all that a text gives
-abbrev pub outOf : Got → Out
-outOf g = record { n = keptTags g; long = g .long; far = g .far }
+-- what a result has to stand for: all that a text gives, its tags counted
+abbrev pub seenIn : Got → Seen
+seenIn g = record { n = keptTags g; long = g .long; far = g .far }
 
 -- what a reader of the cycle says of its result r and of the table, t before and u after
 pub record Told (t : List ℕ) (g : Got) (most : ℕ) (r : Out) (u : List ℕ) : Type 0 where
-  pub out : r ≡ outOf g
+  pub out : seenOf r ≡ seenIn g
   pub table : u ≡ laid t (encode (g .tags))
   pub few : r .n ≤ most
 

@@ -74,8 +74,9 @@ raw = refl
 
 pub answers : Gives answerOf (
     ("", Written 0) ∷
-    ("\\t(\\t(\\t(\\t(\\t(\\t(\\t(\\t(\\b1", Written 9) ∷
-    ("\\t(\\t(\\t(\\t(\\t(\\t(\\t(\\t(\\t(\\b1", Written 8) ∷
+    ("\\t(\\t(\\t(\\t(\\t(\\t(\\t(\\t(\\t(\\b1", Written 10) ∷
+    ("\\t(\\t(\\t(\\t(\\t(\\t(\\t(\\t(\\t(\\t(\\t(\\t(\\t(\\t(\\t(\\t(\\b1", Written 17) ∷
+    ("\\t(\\t(\\t(\\t(\\t(\\t(\\t(\\t(\\t(\\t(\\t(\\t(\\t(\\t(\\t(\\t(\\t(\\b1", Written 16) ∷
     ("\\fs999999999", Written 1) ∷
     ("\\fs1000000000", Refused (NumeralTooLong 3)) ∷
     ("\\fs1e2", Written 1) ∷

@@ -2,13 +2,14 @@
 ghost use mathlib.Core.Path.{_≡_};
 ghost use Prim.Native.Nat.{_+_, _-_, _*_, _^_, _≤_, _<_};
 ghost use lib.ListN.{length};
-ghost use Rattle.refusal.specs.Refusal.{textGround};
+ghost use Rattle.lists.specs.Lists.{firstOf};
+ghost use Rattle.refusal.specs.Refusal.{mostBytes, textGround};
 ghost use Rattle.refusal.specs.declared.Checked.the-variants.{Good};
 ghost use Rattle.tag.specs.Table.{placesOf, laid};
 ghost use Rattle.read.specs.Block.{paramAt, nameEnd, headAt, peelTo, tagAt, tAt, parse};
 ghost use Rattle.read.specs.Reading.{readGround, wholeText, lessBraces, Answered};
 ghost use Rattle.read.specs.Moved.{AsAlone};
-ghost use Rattle.read.specs.Inner.{HeadIn, headed, tWords, Peels, keptRecords, keptGot, joinedOut, aroundOut, Told, BraceEnd};
+ghost use Rattle.read.specs.Inner.{HeadIn, headed, tWords, Peels, noPlace, InWord, foundOf, seenOf, keptRecords, keptGot, joinedOut, aroundOut, Told, BraceEnd};
 
 // A tag: where its name begins and ends, its parameter from p to q, and the place behind both.
 pub struct Head {
@@ -34,11 +35,14 @@ pub struct Peeled {
     pub long: lists::Found,
 }
 
-// What a reader gives: how many records, the first numeral that is too long, the first \fade whose times lie too far off.
+// The word that stands for no place.
+const NO_PLACE: u32 = 4294967295;
+
+// What a reader gives: how many records, the place of the first numeral that is too long, that of the first \fade whose times lie too far off; `NO_PLACE` where there is none.
 pub struct Out {
-    pub n: usize,
-    pub long: lists::Found,
-    pub far: lists::Found,
+    pub n: u32,
+    pub long: u32,
+    pub far: u32,
 }
 
 // The part of the text that is read.
@@ -239,79 +243,100 @@ fn t_record(h: Heads, n: u32) -> tag::Record
 
 // What a plain tag gives, its record into the front of the table.
 fn keep(i: usize, k: plain::Kept, table: &mut [u32]) -> Out
-    ensures { λ r. ⌜ (r ≡ keptGot i k) × (now (table .exit) ≡ laid (now (table .entry)) (keptRecords k)) × (r .n ≤ 1) ⌝ }
+    requires { ⌜ (i < noPlace) × InWord (keptGot i k .long) ⌝ }
+    ensures { λ r. ⌜ (seenOf r ≡ keptGot i k) × (now (table .exit) ≡ laid (now (table .entry)) (keptRecords k)) × (r .n ≤ 1) ⌝ }
 {
     match k {
         plain::Kept::No => Out {
             n: 0,
-            long: lists::Found::Nowhere,
-            far: lists::Found::Nowhere,
+            long: NO_PLACE,
+            far: NO_PLACE,
         },
         plain::Kept::Long(p) => Out {
             n: 0,
-            long: lists::Found::At(p),
-            far: lists::Found::Nowhere,
+            long: p as u32,
+            far: NO_PLACE,
         },
         plain::Kept::Tag(r) => {
             tag::put(table, r);
             Out {
                 n: 1,
-                long: lists::Found::Nowhere,
-                far: lists::Found::Nowhere,
+                long: NO_PLACE,
+                far: NO_PLACE,
             }
         }
         plain::Kept::Far(r) => {
             tag::put(table, r);
             Out {
                 n: 1,
-                long: lists::Found::Nowhere,
-                far: lists::Found::At(i),
+                long: NO_PLACE,
+                far: i as u32,
             }
         }
     }
 }
 
+// A place as a word.
+fn place_word(f: lists::Found) -> u32
+    requires { ⌜ InWord f ⌝ }
+    ensures { λ r. ⌜ foundOf r ≡ f ⌝ }
+{
+    match f {
+        lists::Found::Nowhere => NO_PLACE,
+        lists::Found::At(p) => p as u32,
+    }
+}
+
+// The first of two places that there is.
+fn first_place(a: u32, b: u32) -> u32
+    ensures { λ r. ⌜ foundOf r ≡ firstOf (foundOf a) (foundOf b) ⌝ }
+{
+    if a == NO_PLACE {
+        return b;
+    }
+    a
+}
+
 // What two readers give, the one behind the other.
 fn joined(a: Out, b: Out) -> Out
     requires { ⌜ (a .n < 65536) × (b .n < 65536) ⌝ }
-    ensures { λ r. ⌜ r ≡ joinedOut a b ⌝ }
+    ensures { λ r. ⌜ seenOf r ≡ joinedOut (seenOf a) (seenOf b) ⌝ }
 {
-    let al = a.long;
-    let bl = b.long;
-    let long = lists::first(al, bl);
-    let af = a.far;
-    let bf = b.far;
-    let far = lists::first(af, bf);
     Out {
         n: a.n + b.n,
-        long,
-        far,
+        long: first_place(a.long, b.long),
+        far: first_place(a.far, b.far),
     }
 }
 
 // What a \t gives: its own record, and what is inside.
-fn around(l: lists::Found, o: Out) -> Out
+fn around(l: u32, o: Out) -> Out
     requires { ⌜ o .n < 65536 ⌝ }
-    ensures { λ r. ⌜ r ≡ aroundOut l o ⌝ }
+    ensures { λ r. ⌜ seenOf r ≡ aroundOut (foundOf l) (seenOf o) ⌝ }
 {
-    let inner_long = o.long;
-    let long = lists::first(l, inner_long);
-    let inner_far = o.far;
     Out {
         n: o.n + 1,
-        long,
-        far: inner_far,
+        long: first_place(l, o.long),
+        far: o.far,
     }
 }
 
 // One tag, its backslash at i, into the front of the table.
 fn parse_one(text: &[u8], i: usize, h: Head, depth: usize, table: &mut [u32]) -> Out
-    requires { ⌜ (h .name ≤ h .end) × (h .end ≤ h .p) × (h .p ≤ h .q) × (h .q ≤ length (now text)) × (length (now text) < 65536) ⌝ }
+    requires { ⌜ (i < h .end) × (h .name ≤ h .end) × (h .end ≤ h .p) × (h .p ≤ h .q) × (h .q ≤ length (now text)) × (length (now text) ≤ mostBytes) ⌝ }
     ensures { λ r. ⌜ Told (now (table .entry)) (tagAt (tAt depth (now (text .entry))) (now (text .entry)) i h) (h .q - h .p + 1) r (now (table .exit)) ⌝ }
 {
     let key = plain::key_at(text, h.name, h.end);
     if key == 0x74 {
         return parse_t(text, h.p, h.q, depth, table);
+    }
+    // For the compiler (MEASURED, Shapes for the compiler): plain_at is asked in two places, so that what it holds is on the stack once and not at each level of \t.
+    if h.p == h.end {
+        return keep(
+            i,
+            plain::plain_at(text, key, h.name, h.end, h.end, h.q),
+            table,
+        );
     }
     keep(
         i,
@@ -322,23 +347,23 @@ fn parse_one(text: &[u8], i: usize, h: Head, depth: usize, table: &mut [u32]) ->
 
 // A \t: its tags go into the rest of the table behind its own record.
 fn parse_t(text: &[u8], p: usize, q: usize, depth: usize, table: &mut [u32]) -> Out
-    requires { ⌜ (p ≤ q) × (q ≤ length (now text)) × (length (now text) < 65536) ⌝ }
+    requires { ⌜ (p ≤ q) × (q ≤ length (now text)) × (length (now text) ≤ mostBytes) ⌝ }
     ensures { λ r. ⌜ Told (now (table .entry)) (tAt depth (now (text .entry)) p q) (q - p + 1) r (now (table .exit)) ⌝ }
 {
     if depth == 0 {
         return Out {
             n: 0,
-            long: lists::Found::Nowhere,
-            far: lists::Found::Nowhere,
+            long: NO_PLACE,
+            far: NO_PLACE,
         };
     }
     let l = peel(text, p, q);
     let start = scan::least(8, table.len());
     let o = parse_overrides_depth(text, l.rest, q, depth - 1, &mut table[start..]);
     let heads = l.heads;
-    tag::put(table, t_record(heads, o.n as u32));
+    tag::put(table, t_record(heads, o.n));
     let long = l.long;
-    around(long, o)
+    around(place_word(long), o)
 }
 
 // The tags of a block, into the front of the table.
@@ -349,14 +374,14 @@ fn parse_overrides_depth(
     depth: usize,
     table: &mut [u32],
 ) -> Out
-    requires { ⌜ (from ≤ to) × (to ≤ length (now text)) × (length (now text) < 65536) ⌝ }
+    requires { ⌜ (from ≤ to) × (to ≤ length (now text)) × (length (now text) ≤ mostBytes) ⌝ }
     ensures { λ r. ⌜ Told (now (table .entry)) (parse depth (now (text .entry)) from to) (to - from) r (now (table .exit)) ⌝ }
 {
     let mut i = from;
     let mut out = Out {
         n: 0,
-        long: lists::Found::Nowhere,
-        far: lists::Found::Nowhere,
+        long: NO_PLACE,
+        far: NO_PLACE,
     };
     while i < to {
         if text[i] == 92 {
@@ -364,7 +389,7 @@ fn parse_overrides_depth(
             if h.end == i + 1 {
                 i += 1;
             } else {
-                let start = scan::least(8 * out.n, table.len());
+                let start = scan::least(8 * (out.n as usize), table.len());
                 let o = parse_one(text, i, h, depth, &mut table[start..]);
                 let all = joined(out, o);
                 out = all;
@@ -379,22 +404,18 @@ fn parse_overrides_depth(
 
 // Grounds 3, 4 and 9 for what was seen.
 fn check_read(o: Out, places: usize) -> refusal::Answer
-    ensures { λ r. ⌜ r ≡ readGround (o .long) (o .far) (o .n) places ⌝ }
+    ensures { λ r. ⌜ r ≡ readGround (foundOf (o .long)) (foundOf (o .far)) (o .n) places ⌝ }
 {
-    let long = o.long;
-    let far = o.far;
-    match long {
-        lists::Found::At(p) => refusal::Answer::Refused(refusal::Refusal::NumeralTooLong(p)),
-        lists::Found::Nowhere => match far {
-            lists::Found::At(p) => refusal::Answer::Refused(refusal::Refusal::FadeTooFar(p)),
-            lists::Found::Nowhere => {
-                if o.n <= scan::least(places, 1024) {
-                    refusal::Answer::Written(o.n)
-                } else {
-                    refusal::Answer::Refused(refusal::Refusal::NoRoom(o.n))
-                }
-            }
-        },
+    if o.long != NO_PLACE {
+        return refusal::Answer::Refused(refusal::Refusal::NumeralTooLong(o.long as usize));
+    }
+    if o.far != NO_PLACE {
+        return refusal::Answer::Refused(refusal::Refusal::FadeTooFar(o.far as usize));
+    }
+    if o.n as usize <= scan::least(places, 1024) {
+        refusal::Answer::Written(o.n as usize)
+    } else {
+        refusal::Answer::Refused(refusal::Refusal::NoRoom(o.n as usize))
     }
 }
 
@@ -404,15 +425,15 @@ fn read_good(text: &[u8], from: usize, to: usize, table: &mut [u32]) -> refusal:
     ensures { λ r. ⌜ Answered (now (text .entry)) (record { from = from; to = to }) (now (table .entry)) r (now (table .exit)) ⌝ }
 {
     if survey::straight(text, from, to, scan::least(table.len() / 8, 1024)) {
-        let o = parse_overrides_depth(text, from, to, 8, table);
-        return refusal::Answer::Written(o.n);
+        let o = parse_overrides_depth(text, from, to, 16, table);
+        return refusal::Answer::Written(o.n as usize);
     }
-    let seen = parse_overrides_depth(text, from, to, 8, &mut table[..0]);
+    let seen = parse_overrides_depth(text, from, to, 16, &mut table[..0]);
     let answer = check_read(seen, table.len() / 8);
     match answer {
         refusal::Answer::Refused(r) => refusal::Answer::Refused(r),
         refusal::Answer::Written(n) => {
-            let _ = parse_overrides_depth(text, from, to, 8, table);
+            let _ = parse_overrides_depth(text, from, to, 16, table);
             refusal::Answer::Written(n)
         }
     }

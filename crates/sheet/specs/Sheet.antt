@@ -114,9 +114,9 @@ rows =
     sung "\\t(\\k10)" [] ∷
     -- `\1c&H0000FF&`: red 255, green 0, blue 0
     coloured "\\1c&H0000FF&" 255 0 0 ∷
-    -- `\t(` eight times then `\b1`: nine records; nine times: eight
+    -- `\t(` eight times then `\b1`: nine records; 02, N7: nine times: ten
     counted "\\t(\\t(\\t(\\t(\\t(\\t(\\t(\\t(\\b1" 9 ∷
-    counted "\\t(\\t(\\t(\\t(\\t(\\t(\\t(\\t(\\t(\\b1" 8 ∷
+    counted "\\t(\\t(\\t(\\t(\\t(\\t(\\t(\\t(\\t(\\b1" 10 ∷
     -- `m 0 0 s 6 0 6 6 0 6`, exponent 1: move 0 0, line 5 1, cubic 6 2 6 4 5 5
     drawn "m 0 0 s 6 0 6 6 0 6" 1 (moveTo 0 0 ∷ lineTo 5 1 ∷ cubicTo 6 2 6 4 5 5 ∷ []) ∷
     []

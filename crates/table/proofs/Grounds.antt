@@ -7,7 +7,6 @@ use Prim.Native.Nat.{ℕ, _≤_, min}
 use native.Mathlib.Omega.{arith}
 use lib.IntN.{ℤ, pos, negsuc, natAbs}
 use lib.Dec.{leb}
-use lib.ListN.{take}
 use lib.Seq.{take-all}
 use borrow.Author.Tests.{leb-true}
 use Rattle.scan.specs.Scan.{pick, both}
@@ -20,10 +19,10 @@ use Rattle.refusal.specs.declared.Refusal.the-variants.{TableMalformed, TimeOut
 use Rattle.tag.specs.Tag.{mostDepth}
 use Rattle.tag.specs.Table.{placesOf}
 use Rattle.refusal.specs.Answer.{firstGround}
-use Rattle.tag.specs.WellFormed.{recordsOf, broken, fault, excess, tableGround}
+use Rattle.tag.specs.WellFormed.{recordsOf, broken, fault, excess, front, tableGroundTo, tableGround}
 use Rattle.tag.proofs.Formed.{bad-good, first-good, ground-formed, formed-ground}
 use Rattle.table.specs.Inner.{part}
-use Rattle.table.specs.Ground.{inTime, timeGround, Fine, callGround}
+use Rattle.table.specs.Ground.{inTime, timeGround, Fine, callGroundTo, callGround}
 use Rattle.table.proofs.Slices.{length-records}
 
 -- ---- ground 5 in the code's words
@@ -33,8 +32,8 @@ unfolding excess
 excess-places t = rw (length-records t)
 
 -- the first 1,024 records, or all
-front : (t : List ℕ) → part t 0 (min (placesOf t) mostPlaces) ≡ take mostPlaces (recordsOf t)
-front t =
+part-front : (t : List ℕ) → part t 0 (min (placesOf t) mostPlaces) ≡ front t
+part-front t =
     let l = length-records t in
     ⊎-elim
     (λ h. let z : min (placesOf t) mostPlaces ≡ placesOf t = omega arith in
@@ -43,8 +42,8 @@ front t =
     (le-or-lt (placesOf t) mostPlaces)
 
 pub table-found : (t : List ℕ) (n : ℕ) (c : Checked) → n ≡ min (placesOf t) mostPlaces → c ≡ fault mostDepth 0 (part t 0 n) → firstGround c (excess t) ≡ tableGround t
-unfolding tableGround
-table-found t n c h e = rw (e, h, front t)
+unfolding tableGroundTo
+table-found t n c h e = rw (e, h, part-front t)
 
 -- ---- ground 6
 
@@ -69,12 +68,12 @@ times-good true false e = absurd (bad-good e)
 times-good false b e = absurd (bad-good e)
 
 pub good-fine : (ws : List ℕ) (t dur : ℤ) → callGround ws t dur ≡ Good → Fine ws t dur
-unfolding callGround timeGround
+unfolding callGroundTo timeGround
 good-fine ws t dur e =
     let f = first-good (tableGround ws) (timeGround t dur) e in
     let g = times-good (inTime t) (inTime dur) (f .1) in
     record { formed = ground-formed ws (f .0); instant = g .0; duration = g .1 }
 
 pub fine-good : (ws : List ℕ) (t dur : ℤ) → Fine ws t dur → callGround ws t dur ≡ Good
-unfolding callGround timeGround
+unfolding callGroundTo timeGround
 fine-good ws t dur f = rw (formed-ground ws (f .formed), f .instant, f .duration)

@@ -11,7 +11,8 @@ use Rattle.refusal.specs.declared.Checked.{Checked}
 use Rattle.refusal.specs.declared.Checked.the-variants.{Good, Bad}
 use Rattle.refusal.specs.declared.Refusal.the-variants.{TimeOutOfRange}
 use Rattle.refusal.specs.Answer.{firstGround}
-use Rattle.tag.specs.WellFormed.{WellFormed, tableGround}
+use Rattle.tag.specs.Tag.{mostDepth}
+use Rattle.tag.specs.WellFormed.{WellFormed, tableGroundTo}
 
 -- "within ±1,000,000,000"
 abbrev pub inTime : ℤ → Bool
@@ -31,6 +32,10 @@ pub record Fine (ws : List ℕ) (t dur : ℤ) : Type 0 where
   pub instant : InTime t
   pub duration : InTime dur
 
--- grounds 5 and 6 of a call that is given a table, an instant and a duration
-unfoldable pub callGround : List ℕ → ℤ → ℤ → Checked
-callGround ws t dur = firstGround (tableGround ws) (timeGround t dur)
+-- grounds 5 and 6 of a call that is given a table, an instant and a duration, as a controller that allows T nested at most d deep gives them
+unfoldable pub callGroundTo : ℕ → List ℕ → ℤ → ℤ → Checked
+callGroundTo d ws t dur = firstGround (tableGroundTo d ws) (timeGround t dur)
+
+-- at the depth that is allowed here
+abbrev pub callGround : List ℕ → ℤ → ℤ → Checked
+callGround ws t dur = callGroundTo mostDepth ws t dur

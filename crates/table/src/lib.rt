@@ -322,7 +322,7 @@ pub fn t_fault(table: &[u32], at: usize, left: usize, r: Record) -> Checked
     if !scan::both(t_fits(r), n <= left - 1) {
         return Checked::Bad(Refusal::TableMalformed(at));
     }
-    fault(table, at + 1, n, 7)
+    fault(table, at + 1, n, 15)
 }
 
 // The excess over 1,024 records, or a broken one behind the whole ones.
@@ -345,7 +345,7 @@ pub fn excess(table: &[u32]) -> Checked
 pub fn check_table(table: &[u32]) -> Checked
     ensures { λ r. ⌜ r ≡ tableGround (now (table .entry)) ⌝ }
 {
-    let found = fault(table, 0, scan::least(table.len() / 8, 1024), 8);
+    let found = fault(table, 0, scan::least(table.len() / 8, 1024), 16);
     let last = excess(table);
     refusal::first_of(found, last)
 }

@@ -17,10 +17,9 @@ use Rattle.refusal.specs.declared.Checked.the-variants.{Good, Bad}
 use Rattle.refusal.specs.declared.Refusal.{Refusal}
 use Rattle.refusal.specs.declared.Refusal.the-variants.{TableMalformed}
 use Rattle.tag.specs.declared.Record.{Record}
-use Rattle.tag.specs.Tag.{mostDepth}
 use Rattle.tag.specs.Range.{inRange}
 use Rattle.refusal.specs.Answer.{firstGround}
-use Rattle.tag.specs.WellFormed.{recordsOf, broken, All, all, more, InRange, tKind, holds, Nested, end, plain, around, WellFormed, faultIn, fault, excess, tableGround, AtFault, range, deep, past, later, inner, behind}
+use Rattle.tag.specs.WellFormed.{recordsOf, broken, All, all, more, InRange, tKind, holds, Nested, end, plain, around, WellFormedTo, faultIn, fault, excess, front, tableGroundTo, AtFault, range, deep, past, later, inner, behind}
 
 -- ---- lists
 
@@ -234,44 +233,49 @@ module _ (t : List ℕ) where
   abbrev rs : List Record
   rs = recordsOf t
 
-  -- no ground 5: the table is well formed
-  pub ground-formed : tableGround t ≡ Good → WellFormed t
-  unfolding tableGround excess
-  ground-formed e =
-      let w = first-good (fault mostDepth 0 (take mostPlaces rs)) (excess t) e in
-      go (leb (length rs) mostPlaces) (broken t) refl refl (w .1) (fault-fine (length (take mostPlaces rs)) mostDepth 0 (take mostPlaces rs) (le-refl _) (w .0))
-    where
-      go : (u v : Bool) → leb (length rs) mostPlaces ≡ u → broken t ≡ v → pick u (pick v (Bad (TableMalformed (length rs))) Good) (Bad (TableMalformed mostPlaces)) ≡ Good → Fine mostDepth (take mostPlaces rs) → WellFormed t
-      go true true a b e f = absurd (bad-good e)
-      go true false a b e f =
-          let few = leb-true (length rs) mostPlaces a in
-          let z : take mostPlaces rs ≡ rs = take-all mostPlaces rs few in
-          record { few = few; whole = b; ranges = rw z at (f .ranges); around = rw z at (f .nested) }
-      go false v a b e f = absurd (bad-good e)
-
-  -- a well-formed table has no ground 5
-  pub formed-ground : WellFormed t → tableGround t ≡ Good
-  unfolding tableGround excess
-  formed-ground w =
-      let z : take mostPlaces rs ≡ rs = take-all mostPlaces rs (w .few) in
-      rw (z, fine-fault (length rs) mostDepth 0 (le-refl _) (w .ranges) (w .around), le-leb (length rs) mostPlaces (w .few), w .whole)
-
   -- ground 5 names the first record at fault; or, where none of the first 1,024 is, the 1,025th, or the broken one behind the last
-  pub data Named : Refusal → Type 0 where
-    record-at-fault : {b : Refusal} → FirstFault mostDepth 0 (take mostPlaces rs) b → Named b
-    too-many : ((k : ℕ) → AtFault mostDepth (take mostPlaces rs) k → ⊥) → mostPlaces < length rs → Named (TableMalformed mostPlaces)
-    broken-last : ((k : ℕ) → AtFault mostDepth (take mostPlaces rs) k → ⊥) → length rs ≤ mostPlaces → broken t ≡ true → Named (TableMalformed (length rs))
+  pub data Named (d : ℕ) : Refusal → Type 0 where
+    record-at-fault : {b : Refusal} → FirstFault d 0 (front t) b → Named d b
+    too-many : ((k : ℕ) → AtFault d (front t) k → ⊥) → mostPlaces < length rs → Named d (TableMalformed mostPlaces)
+    broken-last : ((k : ℕ) → AtFault d (front t) k → ⊥) → length rs ≤ mostPlaces → broken t ≡ true → Named d (TableMalformed (length rs))
 
-  pub ground-first : (b : Refusal) → tableGround t ≡ Bad b → Named b
-  unfolding tableGround excess
-  ground-first b e =
-      ⊎-elim
-      (λ x. record-at-fault (fault-first (length (take mostPlaces rs)) mostDepth 0 (take mostPlaces rs) (le-refl _) x))
-      (λ x. let f = fault-fine (length (take mostPlaces rs)) mostDepth 0 (take mostPlaces rs) (le-refl _) (x .0) in
-      go (leb (length rs) mostPlaces) (broken t) refl refl (x .1) (λ k g. no-fault (f .ranges) (f .nested) g))
-      (first-bad (fault mostDepth 0 (take mostPlaces rs)) (excess t) e)
-    where
-      go : (u v : Bool) → leb (length rs) mostPlaces ≡ u → broken t ≡ v → pick u (pick v (Bad (TableMalformed (length rs))) Good) (Bad (TableMalformed mostPlaces)) ≡ Bad b → ((k : ℕ) → AtFault mostDepth (take mostPlaces rs) k → ⊥) → Named b
-      go true true p q e f = let z : TableMalformed (length rs) ≡ b = cc in rw z at (broken-last f (leb-true (length rs) mostPlaces p) q)
-      go true false p q e f = absurd (bad-good (sym e))
-      go false v p q e f = let z : TableMalformed mostPlaces ≡ b = cc in rw z at (too-many f (leb-false (length rs) mostPlaces p))
+  module _ {d : ℕ} where
+    -- no ground 5: the table is well formed
+    pub ground-formed : tableGroundTo d t ≡ Good → WellFormedTo d t
+    unfolding tableGroundTo excess
+    ground-formed e =
+        let w = first-good (fault d 0 (front t)) (excess t) e in
+        go (leb (length rs) mostPlaces) (broken t) refl refl (w .1) (fault-fine (length (front t)) d 0 (front t) (le-refl _) (w .0))
+      where
+        go : (u v : Bool) → leb (length rs) mostPlaces ≡ u → broken t ≡ v → pick u (pick v (Bad (TableMalformed (length rs))) Good) (Bad (TableMalformed mostPlaces)) ≡ Good → Fine d (front t) → WellFormedTo d t
+        go true true a b e f = absurd (bad-good e)
+        go true false a b e f =
+            let few = leb-true (length rs) mostPlaces a in
+            let z : front t ≡ rs = take-all mostPlaces rs few in
+            record { few = few; whole = b; ranges = rw z at (f .ranges); around = rw z at (f .nested) }
+        go false v a b e f = absurd (bad-good e)
+
+    -- a well-formed table has no ground 5
+    pub formed-ground : WellFormedTo d t → tableGroundTo d t ≡ Good
+    unfolding tableGroundTo excess
+    formed-ground w =
+        let z : front t ≡ rs = take-all mostPlaces rs (w .few) in
+        rw (z, fine-fault (length rs) d 0 (le-refl _) (w .ranges) (w .around), le-leb (length rs) mostPlaces (w .few), w .whole)
+
+    -- what ground 5 is: the first at fault of the first 1,024, or, where none is, what comes behind them
+    pub look : {C : Type 0} → (((k : ℕ) → AtFault d (front t) k → ⊥) → tableGroundTo d t ≡ excess t → C) → ((b : Refusal) → FirstFault d 0 (front t) b → tableGroundTo d t ≡ Bad b → C) → C
+    unfolding tableGroundTo
+    look {C} f g = go (fault d 0 (front t)) refl
+      where
+        go : (c : Checked) → fault d 0 (front t) ≡ c → C
+        go Good e = let w = fault-fine (length (front t)) d 0 (front t) (le-refl _) e in f (λ k x. no-fault (w .ranges) (w .nested) x) (rw e refl)
+        go (Bad b) e = g b (fault-first (length (front t)) d 0 (front t) (le-refl _) e) (rw e refl)
+
+    pub ground-first : (b : Refusal) → tableGroundTo d t ≡ Bad b → Named d b
+    unfolding excess
+    ground-first b e = look (λ none x. go (leb (length rs) mostPlaces) (broken t) refl refl (sym x ∙ e) none) (λ y f g. let k : Bad y ≡ Bad b = sym g ∙ e in let z : y ≡ b = cc in rw z at (record-at-fault f))
+      where
+        go : (u v : Bool) → leb (length rs) mostPlaces ≡ u → broken t ≡ v → pick u (pick v (Bad (TableMalformed (length rs))) Good) (Bad (TableMalformed mostPlaces)) ≡ Bad b → ((k : ℕ) → AtFault d (front t) k → ⊥) → Named d b
+        go true true p q e f = let z : TableMalformed (length rs) ≡ b = cc in rw z at (broken-last f (leb-true (length rs) mostPlaces p) q)
+        go true false p q e f = absurd (bad-good (sym e))
+        go false v p q e f = let z : TableMalformed mostPlaces ≡ b = cc in rw z at (too-many f (leb-false (length rs) mostPlaces p))

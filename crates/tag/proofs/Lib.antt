@@ -2,3 +2,4 @@ pub mod Table
 pub mod Tags
 pub mod Formed
 pub mod Decoding
+pub mod Deeper

@@ -12,7 +12,8 @@ use Rattle.refusal.specs.declared.Refusal.the-variants.{TableMalformed}
 use Rattle.tag.specs.declared.Record.{Record}
 use Rattle.tag.specs.Table.{rec, tableWords}
 use Rattle.tag.specs.Range.{rows, inRange}
-use Rattle.tag.specs.WellFormed.{recordsTo, faultIn, excess, tableGround}
+use Rattle.tag.specs.Tag.{mostDepth}
+use Rattle.tag.specs.WellFormed.{recordsTo, faultIn, excess, tableGroundTo}
 
 -- ---- ranges
 
@@ -137,10 +138,10 @@ abbrev nest : ℕ → List Record
 nest zero = b1 ∷ []
 nest (suc n) = t (suc n) ∷ nest n
 
-abbrev Grounds : List (List ℕ × Checked) → Type 0
-Grounds rows = map (λ (r : List ℕ × Checked). tableGround (r .0)) rows ≡ map (λ (r : List ℕ × Checked). r .1) rows
+abbrev Grounds : ℕ → List (List ℕ × Checked) → Type 0
+Grounds d rows = map (λ (r : List ℕ × Checked). tableGroundTo d (r .0)) rows ≡ map (λ (r : List ℕ × Checked). r .1) rows
 
-pub faults : Grounds (
+pub faults : Grounds mostDepth (
     ([], Good) ∷
     (tableWords (b1 ∷ t 1 ∷ b1 ∷ []), Good) ∷
     -- a \b of 50, and one that is not the first at fault
@@ -150,12 +151,28 @@ pub faults : Grounds (
     (tableWords (t 2 ∷ b1 ∷ []), Bad (TableMalformed 0)) ∷
     (tableWords (t 1 ∷ t 1 ∷ b1 ∷ []), Bad (TableMalformed 1)) ∷
     (tableWords (t 2 ∷ t 1 ∷ b1 ∷ b1 ∷ []), Good) ∷
-    -- eight \t, and nine
-    (tableWords (nest 8), Good) ∷
-    (tableWords (nest 9), Bad (TableMalformed 8)) ∷
+    -- sixteen \t, and seventeen
+    (tableWords (nest 16), Good) ∷
+    (tableWords (nest 17), Bad (TableMalformed 16)) ∷
     -- a broken record, alone and behind one at fault
     (tableWords (b1 ∷ []) ++ (1 ∷ []), Bad (TableMalformed 1)) ∷
     (tableWords (rec 50 0 0 0 0 0 0 0 ∷ []) ++ (1 ∷ []), Bad (TableMalformed 0)) ∷
     [])
-unfolding tableGround excess faultIn recordsTo tableWords inRange rows ofBits inReach
+unfolding tableGroundTo excess faultIn recordsTo tableWords inRange rows ofBits inReach
 faults = refl
+
+-- 02, N7: "a controller still at eight"
+pub faults-at-eight : Grounds 8 (
+    (tableWords (nest 8), Good) ∷
+    (tableWords (nest 9), Bad (TableMalformed 8)) ∷
+    (tableWords (nest 16), Bad (TableMalformed 8)) ∷
+    -- the ninth is at fault itself, also if it is empty; behind eight that hold no more, a further \t is not
+    (tableWords (t 8 ∷ t 7 ∷ t 6 ∷ t 5 ∷ t 4 ∷ t 3 ∷ t 2 ∷ t 1 ∷ t 0 ∷ []), Bad (TableMalformed 8)) ∷
+    (tableWords (t 7 ∷ t 6 ∷ t 5 ∷ t 4 ∷ t 3 ∷ t 2 ∷ t 1 ∷ t 0 ∷ t 0 ∷ []), Good) ∷
+    (tableWords (nest 8 ++ nest 9), Bad (TableMalformed 17)) ∷
+    -- another fault before it comes first, one behind it does not
+    (tableWords (rec 42 50 0 0 0 0 0 0 ∷ nest 9), Bad (TableMalformed 0)) ∷
+    (tableWords (nest 9 ++ (rec 42 50 0 0 0 0 0 0 ∷ [])), Bad (TableMalformed 8)) ∷
+    [])
+unfolding tableGroundTo excess faultIn recordsTo tableWords inRange rows ofBits inReach
+faults-at-eight = refl

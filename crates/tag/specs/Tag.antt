@@ -7,9 +7,9 @@ use lib.Ieee.{Float}
 use Rattle.tag.specs.declared.KaraokeKind.{KaraokeKind}
 use Rattle.tag.specs.declared.Cs.{Cs}
 
--- 01, Reading: "At depth 8 a \t is dropped with its parameter unread"; a table's T nest no deeper
+-- 01, Reading: "At depth 16 a \t is dropped with its parameter unread" (02, N7: it was 8); a table's T nest no deeper
 abbrev pub mostDepth : ℕ
-mostDepth = 8
+mostDepth = 16
 
 -- 01, "String": a part of the text given, by offset and length; an empty part has offset and length 0
 pub record Part : Type 0 where

@@ -52,19 +52,23 @@ tKind = 49
 abbrev pub holds : Record → ℕ
 holds r = r .w5
 
--- "every T's contents end inside what encloses it", "T nested at most eight deep", here d.
+-- "every T's contents end inside what encloses it", "T nested at most sixteen deep", here d.
 -- Behind a T come the records inside it, as many as its word says, with one level less, then those that are not.
 pub data Nested : ℕ → List Record → Type 0 where
   end : {d : ℕ} → Nested d []
   plain : {d : ℕ} {r : Record} {l : List Record} → (r .kind ≡ tKind → ⊥) → Nested d l → Nested d (r ∷ l)
   around : {d : ℕ} {r : Record} {l : List Record} → r .kind ≡ tKind → holds r ≤ length l → Nested d (take (holds r) l) → Nested (suc d) (drop (holds r) l) → Nested (suc d) (r ∷ l)
 
--- 01: at most 1,024 whole records, no broken one, each in range, each T around its own
-pub record WellFormed (t : List ℕ) : Type 0 where
+-- 01: at most 1,024 whole records, no broken one, each in range, each T around its own; T nested at most d deep, as a controller that allows d has it
+pub record WellFormedTo (d : ℕ) (t : List ℕ) : Type 0 where
   pub few : length (recordsOf t) ≤ mostPlaces
   pub whole : broken t ≡ false
   pub ranges : All InRange (recordsOf t)
-  pub around : Nested mostDepth (recordsOf t)
+  pub around : Nested d (recordsOf t)
+
+-- at the depth that is allowed here
+abbrev pub WellFormed : List ℕ → Type 0
+WellFormed t = WellFormedTo mostDepth t
 
 -- ---- ground 5: the first record at fault
 
@@ -93,9 +97,17 @@ fault d i l = faultIn (length l) d i l
 unfoldable pub excess : List ℕ → Checked
 excess t = pick (leb (length (recordsOf t)) mostPlaces) (pick (broken t) (faultAt (length (recordsOf t))) Good) (faultAt mostPlaces)
 
--- ground 5 of a table
-unfoldable pub tableGround : List ℕ → Checked
-tableGround t = firstGround (fault mostDepth 0 (take mostPlaces (recordsOf t))) (excess t)
+-- the records that are looked at: at most 1,024
+abbrev pub front : List ℕ → List Record
+front t = take mostPlaces (recordsOf t)
+
+-- ground 5 of a table, as a controller that allows T nested at most d deep gives it
+unfoldable pub tableGroundTo : ℕ → List ℕ → Checked
+tableGroundTo d t = firstGround (fault d 0 (front t)) (excess t)
+
+-- at the depth that is allowed here
+abbrev pub tableGround : List ℕ → Checked
+tableGround t = tableGroundTo mostDepth t
 
 -- ---- what "at fault" means of one record
 

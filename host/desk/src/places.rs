@@ -124,7 +124,7 @@ fn closing(bytes: &[u8], open: usize) -> usize {
 #[cfg(test)]
 mod tests {
     use super::*;
-    use hannuvel::parse_raw_block;
+    use hannuvel::{MOST_DEPTH, parse_raw_block};
 
     fn sources(text: &str) -> Vec<Option<&str>> {
         let mut table = table();
@@ -152,12 +152,14 @@ mod tests {
     }
 
     #[test]
-    fn bytes_at_the_ninth_depth() {
-        let deep = format!("{}\\fs20{}", WRAP.repeat(10), ")".repeat(10));
-        let found = sources(&deep);
-        assert_eq!(found.len(), 8);
-        for (depth, source) in found.into_iter().enumerate() {
-            assert_eq!(source, Some(&deep[3 * depth..deep.len() - depth]));
+    fn bytes_at_the_seventeenth_depth() {
+        for (depth, records) in [(MOST_DEPTH, MOST_DEPTH + 1), (MOST_DEPTH + 2, MOST_DEPTH)] {
+            let deep = format!("{}\\fs20{}", WRAP.repeat(depth), ")".repeat(depth));
+            let found = sources(&deep);
+            assert_eq!(found.len(), records);
+            for (outside, source) in found.into_iter().enumerate() {
+                assert_eq!(source, Some(&deep[3 * outside..deep.len() - outside]));
+            }
         }
     }
 
@@ -172,7 +174,8 @@ mod tests {
         assert_eq!(block_in("", true), 0..0);
     }
 
-    /// Texts of pieces in any order: the bytes of every tag are found, in order and inside those of its \t.
+    /// Texts of pieces in any order, at any depth: the bytes of every tag are found, in order and inside those of its
+    /// \t.
     #[test]
     fn bytes_of_any_tags() {
         let pieces = [
@@ -201,8 +204,9 @@ mod tests {
             (seed >> 33) as usize % below
         };
         for _ in 0..5000 {
+            let outside = WRAP.repeat(random(MOST_DEPTH + 2));
             let count = random(30);
-            let text: String = (0..count).map(|_| pieces[random(pieces.len())]).collect();
+            let text = (0..count).fold(outside, |text, _| text + pieces[random(pieces.len())]);
             let mut table = table();
             let tags = parse_overrides(&text, &mut table).unwrap();
             in_order(&tags, &bytes_of(&tags, 0..text.len()), 0..text.len());

@@ -1,6 +1,7 @@
 //! The tool, run: golden outputs, every option, every refusal that a text can meet, and what cannot be used.
 
 use assert_cmd::Command;
+use hannuvel::MOST_DEPTH;
 use serde_json::Value;
 use std::fs;
 use std::path::PathBuf;
@@ -358,6 +359,16 @@ fn a_block_as_json() {
     let (status, json) = json(&["block", BLOCK, "--duration", "2000", "--at", "500", "--style", "Default"]);
     assert_eq!(status, 0);
     insta::assert_snapshot!(serde_json::to_string_pretty(&json).unwrap());
+}
+
+/// A tag inside as many \t as may be is told with its bytes.
+#[test]
+fn a_deep_block_as_json() {
+    let text = r"\t(".repeat(MOST_DEPTH) + r"\fs40";
+    let (status, json) = json(&["block", &text]);
+    let tag = (0..MOST_DEPTH).fold(&json["tags"][0], |tag, _| &tag["inside"][0]);
+    let told = (status, &tag["record"], &tag["source"], &tag["bytes"]["first"]);
+    assert_eq!(told, (0, &MOST_DEPTH.into(), &r"\fs40".into(), &(3 * MOST_DEPTH).into()));
 }
 
 #[test]

@@ -63,7 +63,7 @@ pub const MOST_MS: i32 = 1_000_000_000;
 /// The largest scale exponent of a drawing.
 pub const MOST_EXPONENT: u32 = 32;
 /// How deep one \t may stand inside another.
-pub const MOST_DEPTH: usize = 8;
+pub const MOST_DEPTH: usize = 16;
 
 #[cfg(doctest)]
 #[doc = include_str!("../../README.md")]

@@ -4,8 +4,11 @@
 mod lent;
 
 use hannuvel::Refusal::{self, *};
-use hannuvel::words::{evaluate_at, next_mark, parse_drawing, parse_overrides, parse_raw_block, split_clip_arg};
-use hannuvel::{MOST_BYTES, MOST_MS, STATE_WORDS, Tags};
+use hannuvel::words::{
+    Style, evaluate_at, karaoke_spans, next_mark, parse_drawing, parse_overrides, parse_raw_block, split_clip_arg,
+    style_in_force,
+};
+use hannuvel::{MOST_BYTES, MOST_DEPTH, MOST_MS, STATE_WORDS, Tags};
 use lent::Lent;
 
 type Reading = fn(&[u8], &mut [u32]) -> Result<usize, Refusal>;
@@ -80,6 +83,15 @@ fn a_numeral_is_too_long() {
 }
 
 #[test]
+fn a_t_too_deep_is_not_read() {
+    let text = |depth| (r"\t(".repeat(depth) + r"\fs1e9").into_bytes();
+    for call in [parse_overrides, parse_raw_block] {
+        assert_eq!(read(call, &text(MOST_DEPTH), 200), Err(NumeralTooLong(3 * MOST_DEPTH + 3)));
+        assert_eq!(read(call, &text(MOST_DEPTH + 1), 200), Ok(MOST_DEPTH));
+    }
+}
+
+#[test]
 fn a_fade_is_too_far() {
     let fade = |time| format!(r"\b1\fade(0,0,0,0,0,0,{time})");
     for call in [parse_overrides, parse_raw_block] {
@@ -113,22 +125,49 @@ fn malformed() -> Vec<(Vec<u32>, usize)> {
     let mut tables: Vec<_> = at_fault.map(|record| ([good, record].concat(), 1)).into();
     tables.push(([good.as_slice(), &[42]].concat(), 1));
     tables.push((good.repeat(1025), 1024));
-    let nested = |depth: u32| {
-        let level = |inside| record([49, 0, 0, 0, float(1.0), inside]);
-        (0..depth).rev().map(level).collect::<Vec<_>>().concat()
-    };
-    assert_eq!(next_mark(&nested(8), 0, 0), Ok(None));
-    tables.push((nested(9), 8));
+    tables.extend(too_deep());
     tables
+}
+
+/// So many \t one inside the other and, in the last of them, these records.
+fn nested(depth: usize, inmost: &[[u32; 8]]) -> Vec<[u32; 8]> {
+    let level = |inside| record([49, 0, 0, 0, 1f32.to_bits(), (inside + inmost.len()) as u32]);
+    (0..depth).rev().map(level).chain(inmost.iter().copied()).collect()
+}
+
+/// Tables that nest too deep: the \t too many is empty or holds records, is the first or not, and has another fault
+/// behind it or ahead of it.
+fn too_deep() -> Vec<(Vec<u32>, usize)> {
+    let (good, bad, empty) = (record([42, 700]), record([42, 99]), record([49, 0, 0, 0, 1f32.to_bits()]));
+    let deep = nested(MOST_DEPTH, &[empty]);
+    let tables = [
+        (deep.clone(), MOST_DEPTH),
+        (nested(MOST_DEPTH, &[good, empty, good]), MOST_DEPTH + 1),
+        (nested(2 * MOST_DEPTH, &[good]), MOST_DEPTH),
+        ([nested(MOST_DEPTH, &[good]), deep.clone()].concat(), 2 * MOST_DEPTH + 1),
+        (nested(MOST_DEPTH, &[empty, bad]), MOST_DEPTH),
+        (nested(MOST_DEPTH, &[bad, empty]), MOST_DEPTH),
+        ([vec![bad], deep].concat(), 0),
+    ];
+    tables.map(|(records, place)| (records.concat(), place)).into()
 }
 
 #[test]
 fn a_table_is_malformed() {
-    assert_eq!(evaluate(&record([42, 700]).repeat(1024), 0, 0), Ok(()));
+    let good = record([42, 700]);
+    for table in [good.repeat(1024), nested(MOST_DEPTH, &[good]).concat()] {
+        assert_eq!(evaluate(&table, 0, 0), Ok(()));
+        assert_eq!(next_mark(&table, 0, 0), Ok(None));
+        assert_eq!(karaoke_spans(&table, &mut []), Ok(0));
+        assert_eq!(style_in_force(&table, 0, 0, b"", b""), Ok(Style::Own(0..0)));
+        assert_eq!(Tags::stored("", &table).map(|tags| tags.words() == table), Ok(true));
+    }
     for (table, place) in malformed() {
         assert_eq!(evaluate(&table, 0, 0), Err(TableMalformed(place)));
         assert_eq!(evaluate(&table, i32::MAX, 0), Err(TableMalformed(place)));
         assert_eq!(next_mark(&table, 0, 0), Err(TableMalformed(place)));
+        assert_eq!(karaoke_spans(&table, &mut []), Err(TableMalformed(place)));
+        assert_eq!(style_in_force(&table, 0, 0, b"", b""), Err(TableMalformed(place)));
         assert_eq!(Tags::stored("", &table), Err(TableMalformed(place)));
     }
 }

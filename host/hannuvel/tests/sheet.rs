@@ -5,7 +5,7 @@ use hannuvel::{PathCommand, Point, Refusal, Table, Tags, parse_drawing, parse_ov
 /// What is asked of the tags of a block.
 #[track_caller]
 fn block<T>(text: &str, ask: impl FnOnce(Tags) -> T) -> T {
-    let mut table = Table::<16>::new();
+    let mut table = Table::<32>::new();
     ask(parse_overrides(text, &mut table).unwrap())
 }
 
@@ -62,10 +62,12 @@ fn colours_and_alphas() {
 }
 
 #[test]
-fn eight_deep_and_nine() {
+fn sixteen_deep_and_seventeen() {
     let nested = |depth| r"\t(".repeat(depth) + r"\b1";
-    assert_eq!(kinds(&nested(8)), [49, 49, 49, 49, 49, 49, 49, 49, 42]);
-    assert_eq!(kinds(&nested(9)), [49; 8]);
+    for depth in [8, 9, 16] {
+        assert_eq!(kinds(&nested(depth)), [&vec![49; depth][..], &[42]].concat());
+    }
+    assert_eq!(kinds(&nested(17)), [49; 16]);
 }
 
 #[test]

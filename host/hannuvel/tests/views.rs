@@ -1,7 +1,9 @@
 //! The views on tags and states: every kind of tag, every field, and texts of all sorts walked through.
 
 use hannuvel::AnimatedTag::{self, *};
-use hannuvel::{ClipRect, FontName, KaraokeKind, RenderState, Table, Tags, parse_overrides, parse_raw_block};
+use hannuvel::{
+    ClipRect, FontName, KaraokeKind, MOST_DEPTH, RenderState, Table, Tags, parse_overrides, parse_raw_block,
+};
 
 /// One tag of each kind in turn, as a text has it.
 const ALL: &str = concat!(
@@ -130,6 +132,20 @@ fn tags_nest() {
     assert_eq!(names(outer.inner().iter().nth(1).unwrap().inner()), [(4, "u")]);
     assert_eq!(outer.inner().places(), 4);
     assert_eq!(format!("{:?}", tags.iter().last().unwrap().value()), "P(1)");
+}
+
+/// At half the line each \t has gone half the way to what is inside it. The tables are kept and taken up again.
+#[test]
+fn tags_nest_as_deep_as_they_may() {
+    let mut table = Table::<{ MOST_DEPTH + 2 }>::new();
+    for depth in 1..=MOST_DEPTH {
+        let text = format!(r"\fs20{}\fs40", r"\t(".repeat(depth));
+        let kept = parse_overrides(&text, &mut table).unwrap().words().to_vec();
+        let tags = Tags::stored(&text, &kept).unwrap();
+        assert_eq!(tags.places(), depth + 2);
+        let size = |t| tags.evaluate_at(t, 1000).unwrap().font_size;
+        assert_eq!([0, 500, 1000].map(size), [20.0, 20.0 + 20.0 / 2f32.powi(depth as i32), 40.0].map(Some));
+    }
 }
 
 #[test]

@@ -4,6 +4,7 @@ use super::drawing::drawing;
 use super::number::{blanks, hexadecimal, numeral, plain_numeral, whole};
 use super::text::{damage, noise};
 use crate::random::Random;
+use crate::rule::refusal::MOST_DEPTH;
 
 /// How a tag's parameter is made.
 #[derive(Clone, Copy)]
@@ -124,26 +125,33 @@ pub fn raw_block(random: &mut Random) -> Vec<u8> {
     text
 }
 
-/// Nested \t, up to two deeper than the limit, with a tag at the bottom and tags behind.
+/// Nested \t, up to two deeper than the limit, with a tag at the bottom and tags behind; one block in
+/// three has no numbers before the tags and stays short.
 pub fn nested_block(random: &mut Random) -> Vec<u8> {
     let mut text = Vec::new();
-    let depth = random.between(1, 10);
+    let depth = random.between(1, MOST_DEPTH + 2);
+    let short = random.one_in(3);
     for _ in 0..depth {
         text.extend_from_slice(b"\\t(");
-        transition_head(random, &mut text);
+        if !short {
+            transition_head(random, &mut text);
+        }
         if random.one_in(4) {
-            tag(random, &mut text, 10);
+            tag(random, &mut text, BARE);
         }
     }
-    tag(random, &mut text, 10);
+    tag(random, &mut text, BARE);
     for _ in 0..random.below(depth + 2) {
         text.extend_from_slice(b")");
         if random.one_in(3) {
-            tag(random, &mut text, 10);
+            tag(random, &mut text, BARE);
         }
     }
     text
 }
+
+/// So deep a \t is made without tags inside.
+const BARE: usize = 4;
 
 fn tags(random: &mut Random, text: &mut Vec<u8>, depth: usize) {
     for _ in 0..random.below(if depth == 0 { 7 } else { 4 }) {
@@ -301,7 +309,7 @@ fn clip(random: &mut Random, text: &mut Vec<u8>) {
 fn transition(random: &mut Random, text: &mut Vec<u8>, depth: usize) {
     let mut inside = Vec::new();
     transition_head(random, &mut inside);
-    if depth < 4 {
+    if depth < BARE {
         tags(random, &mut inside, depth + 1);
     }
     if random.one_in(16) {
@@ -369,6 +377,6 @@ mod tests {
             .map(|case| nested_block(&mut Random::new(3, case)))
             .map(|text| text.windows(2).filter(|pair| pair == b"\\t").count())
             .collect();
-        assert!((1..=10).all(|depth| depths.contains(&depth)));
+        assert!((1..=18).all(|depth| depths.contains(&depth)));
     }
 }

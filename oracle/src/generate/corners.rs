@@ -100,6 +100,8 @@ const TEXTS: &[&str] = &[
     "\\fad(0,2147483647)\\fad(2147483647,2147483647)",
     "\\t(\\t(\\t(\\t(\\t(\\t(\\t(\\t(<))))))))",
     "<\\t(0,900,2,\\fs30\\t(100,800,0.5,\\fs9\\t(1.1,\\frz9\\t(\\t(0,70,\\t(3,\\t(80,90,\\t(5,6,>))))))))",
+    "<\\t(0,900,2,\\fs30\\t(0.5,\\frz9\\t(50,950,\\t(1.1,\\be3\\t(\\t(3,\\t(100,800,0.5,\\frx9\\t(5,6,\\t(0.7,\
+    \\t(10,990,\\bord3\\t(2,\\t(\\t(80,90,\\fs9\\t(60,900,3,\\t(0,999,1.5,\\t(0.9,>))))))))))))))))",
 ];
 
 /// Lines that are over within 70 milliseconds, to be walked whole.
@@ -185,6 +187,7 @@ pub fn fads() -> Vec<Vec<u32>> {
 mod tests {
     use super::*;
     use crate::built::animate::{AnimatedTag, CueAnimation, parse_overrides};
+    use crate::rule::block::overrides;
     use crate::rule::numeral::ascii;
 
     fn read(text: &str) -> Vec<AnimatedTag> {
@@ -200,6 +203,12 @@ mod tests {
             let count = text.matches('\\').count();
             assert_eq!(tags_in(&read(&text)), count, "{text}");
         }
+    }
+
+    #[test]
+    fn lines_nest_eight_and_sixteen_deep() {
+        let depths: Vec<usize> = texts().map(|text| overrides(&text).depth).collect();
+        assert!(depths.contains(&8) && depths.contains(&16), "{depths:?}");
     }
 
     fn tags_in(tags: &[AnimatedTag]) -> usize {

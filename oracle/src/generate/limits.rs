@@ -1,7 +1,7 @@
 //! Records and tables at the limits of what is well formed, and one beyond them.
 
 use crate::answer::record::{Record, WIDTH};
-use crate::rule::refusal::{MOST_BYTES, MOST_PLACES};
+use crate::rule::refusal::{MOST_BYTES, MOST_DEPTH, MOST_PLACES};
 use crate::rule::table::{Class, RESET, TRANSITION, classes};
 
 const ONE: u32 = 0x3F80_0000;
@@ -14,6 +14,12 @@ pub const PLAIN: Record = [42, 700, 0, 0, 0, 0, 0, 0];
 /// A \t over the whole line with so many records inside.
 pub fn whole(inside: u32) -> Record {
     [TRANSITION, 0, 0, 0, ONE, inside, 0, 0]
+}
+
+/// So many \t, one inside the other, around so many records.
+pub fn around(depth: usize, records: usize) -> Vec<u32> {
+    let inside = (records..records + depth).rev();
+    inside.flat_map(|inside| whole(inside as u32)).collect()
 }
 
 /// The words of a class that may stand, and the words beyond.
@@ -209,18 +215,29 @@ pub fn faulty_tables() -> Vec<Faulty> {
         tables.push((vec![0; broken], 0));
         tables.push(([&[0; WIDTH], &PLAIN[..broken]].concat(), 0));
     }
-    for before in 0..3 {
-        tables.push(([plain(before), nested(9)].concat(), before + 8));
-    }
-    tables.push(([nested(8), nested(9)].concat(), 16));
+    tables.extend(faults_in_depth());
     tables.push(reaching_over(MOST_PLACES + 2));
     tables.push(reaching_over(MOST_PLACES + 1));
     tables
 }
 
-/// So many \t, one inside the other.
-fn nested(depth: u32) -> Vec<u32> {
-    (0..depth).rev().flat_map(whole).collect()
+/// A \t too deep, empty and not, alone and behind others; a record at fault inside many \t.
+fn faults_in_depth() -> Vec<Faulty> {
+    let too_deep = MOST_DEPTH + 1;
+    let mut tables = Vec::new();
+    for inside in 0..2 {
+        let nested = |depth| [around(depth, inside), PLAIN.repeat(inside)].concat();
+        for before in 0..3 {
+            let table = [PLAIN.repeat(before), nested(too_deep)].concat();
+            tables.push((table, before + MOST_DEPTH));
+        }
+        let table = [nested(MOST_DEPTH), nested(too_deep)].concat();
+        tables.push((table, 2 * MOST_DEPTH + inside));
+    }
+    for depth in [8, 9, MOST_DEPTH] {
+        tables.push(([around(depth, 1), vec![0; WIDTH]].concat(), depth));
+    }
+    tables
 }
 
 /// More records than may be, with a \t whose contents end behind the last that counts.
@@ -240,7 +257,12 @@ pub fn good_tables() -> Vec<Vec<u32>> {
     let mut tables: Vec<Vec<u32>> = placed.collect();
     let full = [whole(MOST_PLACES as u32 - 1).to_vec(), PLAIN.repeat(1_023)];
     tables.extend([full.concat(), PLAIN.repeat(MOST_PLACES)]);
-    tables.extend([nested(8), [nested(8), nested(8)].concat(), Vec::new()]);
+    for depth in [8, 9, MOST_DEPTH] {
+        let most = MOST_PLACES - depth;
+        tables.extend([around(depth, 0), around(depth, 0).repeat(2)]);
+        tables.extend([1, most].map(|count| [around(depth, count), PLAIN.repeat(count)].concat()));
+    }
+    tables.push(Vec::new());
     tables
 }
 

@@ -3,15 +3,18 @@
 use std::sync::LazyLock;
 
 use super::corners::ACCELERATIONS;
-use super::limits::{bad_records, whole};
+use super::limits::{around, bad_records};
 use super::number::PATTERNS;
 use crate::answer::record::{Record, WIDTH};
 use crate::random::Random;
-use crate::rule::refusal::{self, MOST_BYTES, MOST_PLACES};
+use crate::rule::refusal::{self, MOST_BYTES, MOST_DEPTH, MOST_PLACES};
 use crate::rule::table::{Class, RESET, TRANSITION, classes};
 
 /// A well-formed table.
 pub fn well_formed(random: &mut Random) -> Vec<u32> {
+    if random.one_in(12) {
+        return steep(random);
+    }
     let most = if random.one_in(400) { MOST_PLACES } else { 12 };
     let count = random.below(most + 1);
     of_size(random, count)
@@ -21,6 +24,25 @@ pub fn well_formed(random: &mut Random) -> Vec<u32> {
 pub fn of_size(random: &mut Random, count: usize) -> Vec<u32> {
     let mut words = Vec::new();
     records(random, &mut words, count, 0);
+    words
+}
+
+/// \t inside each other, up to the limit, here and there with a tag before and behind.
+fn steep(random: &mut Random) -> Vec<u32> {
+    let mut words = flat(random);
+    for _ in 0..random.between(1, MOST_DEPTH) {
+        let mut t = record(random, TRANSITION);
+        t[5] = (words.len() / WIDTH) as u32;
+        words = [flat(random), t.to_vec(), words, flat(random)].concat();
+    }
+    words
+}
+
+/// A record that is no T, or none.
+fn flat(random: &mut Random) -> Vec<u32> {
+    let mut words = Vec::new();
+    let count = usize::from(random.one_in(4));
+    records(random, &mut words, count, MOST_DEPTH);
     words
 }
 
@@ -46,7 +68,7 @@ fn records(random: &mut Random, words: &mut Vec<u32>, count: usize, depth: usize
 /// Often a T, as long as it may still nest; inside one more often.
 fn random_kind(random: &mut Random, depth: usize) -> u32 {
     let chances = if depth == 0 { 4 } else { 2 };
-    if depth < 8 && random.one_in(chances) {
+    if depth < MOST_DEPTH && random.one_in(chances) {
         return TRANSITION;
     }
     random.between(1, TRANSITION as usize - 1) as u32
@@ -225,14 +247,12 @@ fn replace_record(random: &mut Random, words: &mut [u32]) {
     }
 }
 
-/// One to nine T around a table that is not long.
+/// T around a table that is not long, at most one more than may be.
 fn wrap(random: &mut Random, words: &mut Vec<u32>) {
     let count = words.len() / WIDTH;
     if count < 100 {
-        let depth = random.between(1, 9);
-        let around = (count..count + depth).rev();
-        let front = around.flat_map(|inside| whole(inside as u32));
-        words.splice(..0, front.collect::<Vec<u32>>());
+        let depth = random.between(1, MOST_DEPTH + 1);
+        words.splice(..0, around(depth, count));
     }
 }
 
@@ -263,7 +283,7 @@ pub fn instant(random: &mut Random, words: &[u32]) -> i32 {
 #[cfg(test)]
 mod tests {
     use super::*;
-    use crate::rule::table::fault;
+    use crate::rule::table::{depth, fault};
     use std::collections::HashSet;
 
     #[test]
@@ -291,35 +311,21 @@ mod tests {
             .collect();
         assert_eq!(kinds, (1..=49).collect());
         assert!(tables.iter().any(|table| table.len() > 2_000));
-        let deep = tables.iter().filter(|table| depth(table) == 8).count();
-        assert!(deep > 5, "{deep}");
+        let deep = |least| tables.iter().filter(|table| depth(table) >= least).count();
+        assert!(deep(9) > 100 && deep(16) > 10, "{} {}", deep(9), deep(16));
     }
 
     #[test]
     fn tables_are_wrapped_too_deep_at_times() {
-        let mut depths = HashSet::new();
-        for case in 0..100 {
+        let mut wraps = HashSet::new();
+        for case in 0..200 {
             let random = &mut Random::new(3, case);
             let mut words = vec![42, 700, 0, 0, 0, 0, 0, 0];
             wrap(random, &mut words);
-            let found = depth(&words);
-            assert_eq!(fault(&words), (found == 9).then_some(8));
-            depths.insert(found);
+            let around = words.len() / WIDTH - 1;
+            assert_eq!(fault(&words), (around == 17).then_some(16));
+            wraps.insert(around);
         }
-        assert_eq!(depths, (1..=9).collect());
-    }
-
-    /// How deep \t are nested.
-    fn depth(table: &[u32]) -> usize {
-        let mut ends: Vec<usize> = Vec::new();
-        let mut deepest = 0;
-        for (place, record) in table.chunks_exact(WIDTH).enumerate() {
-            ends.retain(|&end| end > place);
-            if record[0] == TRANSITION {
-                ends.push(place + 1 + record[5] as usize);
-                deepest = deepest.max(ends.len());
-            }
-        }
-        deepest
+        assert_eq!(wraps, (1..=17).collect());
     }
 }

@@ -2,7 +2,7 @@
 //! of refusals 3 and 4. A walk from position to position over the whole text.
 
 use super::numeral::{Numeral, ascii, field, parts, trim, trim_end};
-use super::refusal::FARTHEST;
+use super::refusal::{FARTHEST, MOST_DEPTH};
 
 /// A part of the text; an empty one has offset and length 0.
 #[derive(Clone, Copy, Debug, Default, PartialEq)]
@@ -34,6 +34,8 @@ pub struct Kept {
 #[derive(Default)]
 pub struct Reading {
     pub kept: Vec<Kept>,
+    /// How deep the kept \t stand inside each other.
+    pub depth: usize,
     /// The first byte of the first numeral that is too long.
     pub too_long: Option<usize>,
     /// The backslash of the first kept \fade with a time out of range.
@@ -61,7 +63,6 @@ const FADE: u32 = 2;
 const FONT: u32 = 39;
 const RESET: u32 = 41;
 const TRANSITION: u32 = 49;
-const DEEPEST: usize = 8;
 
 /// Name in lower case, kind and shape.
 const TAGS: &[(&str, u32, Shape)] = &[
@@ -334,9 +335,10 @@ impl Walk<'_> {
     }
 
     fn transition(&mut self, tag: Tag, depth: usize) {
-        if depth >= DEEPEST {
+        if depth >= MOST_DEPTH {
             return;
         }
+        self.reading.depth = self.reading.depth.max(depth + 1);
         let index = self.reading.kept.len();
         self.keep(TRANSITION, Default::default());
         let start = self.leading_numbers(tag.param.0, tag.param.1);
@@ -395,10 +397,23 @@ mod tests {
     #[test]
     fn the_sheet_is_read() {
         assert_eq!(kinds(r"\fs20\t(0,1000,\fs40)"), [10, 49, 10]);
-        assert_eq!(kinds(&format!("{}\\b1", "\\t(".repeat(8))).len(), 9);
-        assert_eq!(kinds(&format!("{}\\b1", "\\t(".repeat(9))).len(), 8);
         assert_eq!(kinds(r"\rAlt Style\fn8x\fs(nan)"), []);
         assert_eq!(kinds(r"\fs1e2\fad(1e2,5)\t(1e2,\b1)"), [10, 49, 42]);
+    }
+
+    #[test]
+    fn t_is_kept_sixteen_deep() {
+        let nested = |depth: usize, tags: &str| "\\t(".repeat(depth) + tags;
+        let sixteen_and_bold = [vec![TRANSITION; 16], vec![42]].concat();
+        assert_eq!(kinds(&nested(9, "\\b1")).len(), 10);
+        assert_eq!(kinds(&nested(16, "\\b1")), sixteen_and_bold);
+        assert_eq!(kinds(&nested(17, "\\b1")), [TRANSITION; 16]);
+        assert_eq!(kinds(&nested(17, "")), [TRANSITION; 16]);
+        assert_eq!(kinds(&nested(17, ")\\b1")), sixteen_and_bold);
+        let depth = |text: &str| overrides(text.as_bytes()).depth;
+        let depths = [0, 1, 16, 17].map(|count| depth(&nested(count, "")));
+        assert_eq!(depths, [0, 1, 16, 16]);
+        assert_eq!(depth(r"\t(\b1\t())\t(\fs1e9"), 2);
     }
 
     #[test]
@@ -429,7 +444,8 @@ mod tests {
             None
         );
         assert_eq!(place(r"\t(1,1e9)"), Some(5));
-        assert_eq!(place(&format!("{}1e9", "\\t(".repeat(9))), None);
+        assert_eq!(place(&format!("{}1e9", "\\t(".repeat(16))), Some(48));
+        assert_eq!(place(&format!("{}1e9", "\\t(".repeat(17))), None);
     }
 
     #[test]

@@ -2,6 +2,8 @@
 
 pub const MOST_BYTES: usize = 12_288;
 pub const MOST_PLACES: usize = 1_024;
+/// How deep one \t may stand inside another (02, N7).
+pub const MOST_DEPTH: usize = 16;
 pub const FARTHEST: i64 = 1_000_000_000;
 
 /// Bits 48 to 63 the refusal's number, bits 32 to 47 an extra, bits 0 to 31 the value.

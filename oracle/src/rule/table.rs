@@ -1,9 +1,8 @@
 //! 01, A table record: when a table is well formed.
 
-use super::refusal::{FARTHEST, MOST_BYTES, MOST_PLACES};
+use super::refusal::{FARTHEST, MOST_BYTES, MOST_DEPTH, MOST_PLACES};
 
 const WIDTH: usize = 8;
-const DEEPEST: usize = 8;
 
 pub const RESET: u32 = 41;
 pub const TRANSITION: u32 = 49;
@@ -98,25 +97,37 @@ fn part(offset: u32, length: u32) -> bool {
 
 /// The first record at fault; for excess or a broken last record its index.
 pub fn fault(words: &[u32]) -> Option<usize> {
+    look(words).0
+}
+
+/// How deep the T stand inside each other that are looked into before a fault is found.
+pub fn depth(words: &[u32]) -> usize {
+    look(words).1
+}
+
+/// Fault and depth.
+fn look(words: &[u32]) -> (Option<usize>, usize) {
     let whole = (words.len() / WIDTH).min(MOST_PLACES);
     // Where the contents end of each T that encloses the record.
     let mut ends = vec![whole];
+    let mut depth = 0;
     for (place, record) in words.chunks_exact(WIDTH).take(whole).enumerate() {
         while ends.len() > 1 && ends.last() == Some(&place) {
             ends.pop();
         }
         if !record_fits(record) {
-            return Some(place);
+            return (Some(place), depth);
         }
         if record[0] == TRANSITION {
             let end = place + 1 + record[5] as usize;
-            if ends.len() > DEEPEST || Some(&end) > ends.last() {
-                return Some(place);
+            if ends.len() > MOST_DEPTH || Some(&end) > ends.last() {
+                return (Some(place), depth);
             }
+            depth = depth.max(ends.len());
             ends.push(end);
         }
     }
-    (words.len() > WIDTH * whole).then_some(whole)
+    ((words.len() > WIDTH * whole).then_some(whole), depth)
 }
 
 #[cfg(test)]
@@ -163,10 +174,30 @@ mod tests {
     }
 
     #[test]
-    fn eight_deep_and_no_deeper() {
-        let nested = |depth: u32| (0..depth).rev().flat_map(t).collect::<Vec<_>>();
-        assert_eq!(fault(&nested(8)), None);
-        assert_eq!(fault(&nested(9)), Some(8));
+    fn sixteen_deep_and_no_deeper() {
+        for bolds in [0, 1] {
+            let nested = |deep: u32| {
+                let around = (bolds..bolds + deep).rev().flat_map(t);
+                around
+                    .chain(bold().repeat(bolds as usize))
+                    .collect::<Vec<_>>()
+            };
+            assert_eq!([8, 9, 16].map(|deep| fault(&nested(deep))), [None; 3]);
+            assert_eq!(fault(&nested(17)), Some(16));
+            let depths = [8, 9, 16, 17].map(|deep| depth(&nested(deep)));
+            assert_eq!(depths, [8, 9, 16, 16]);
+        }
+    }
+
+    #[test]
+    fn what_stands_behind_a_fault_is_not_looked_into() {
+        let t_in_t = [t(1), t(0)].concat();
+        let depth_behind = |record: [u32; 8]| depth(&[record.to_vec(), t_in_t.clone()].concat());
+        assert_eq!(depth_behind(bold()), 2);
+        assert_eq!(depth_behind(t(2)), 3);
+        assert_eq!(depth_behind(t(3)), 0);
+        assert_eq!(depth_behind([0; 8]), 0);
+        assert_eq!(depth(&[t_in_t, vec![0; 3]].concat()), 2);
     }
 
     #[test]

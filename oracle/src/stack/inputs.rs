@@ -1,29 +1,39 @@
-//! What the calls are measured on: short, long, refused and random texts and tables.
+//! What the calls are measured on: short, long, refused and random texts and tables, by how deep \t
+//! stands in them.
 
 use super::painted::Arguments;
+use crate::answer::record::WIDTH;
 use crate::calls::WORDS;
 use crate::generate::block::{block, nested_block, raw_block};
 use crate::generate::corners;
 use crate::generate::drawing::drawing;
-use crate::generate::limits::faulty_tables;
-use crate::generate::table::well_formed;
+use crate::generate::limits::{around, faulty_tables, good_records};
+use crate::generate::table::{damage, well_formed};
 use crate::random::Random;
-use crate::rule::refusal::MOST_BYTES;
-use crate::rule::table::has_transition;
+use crate::rule::block::overrides;
+use crate::rule::refusal::{self, MOST_BYTES, MOST_DEPTH};
+use crate::rule::table::{self, TRANSITION};
 use crate::suites::source::Source;
-use crate::texts::{self, DEEP, DRAWN_EXPONENTS, DRAWN_MIX, EXPONENTS, MIXED, NUMERALS, longest};
+use crate::texts::{self, DRAWN_EXPONENTS, DRAWN_MIX, EXPONENTS, MIXED, NUMERALS, longest, opened};
+
+/// How many \t inside each other a row's inputs have at most, and what the row is called.
+pub const DEPTHS: [(usize, &str); 4] = [
+    (0, "no \\t"),
+    (1, "one \\t"),
+    (8, "to eight \\t"),
+    (MOST_DEPTH, "to sixteen \\t"),
+];
+
+/// One for each of the depths.
+pub type ByDepth<T> = [T; DEPTHS.len()];
 
 /// What is lent to the calls: texts, tables, and words with room for every record.
 pub struct Inputs {
-    /// Blocks without \t.
-    pub flat: Vec<Vec<u8>>,
-    /// Blocks with it, up to eight deep and beyond.
-    pub nested: Vec<Vec<u8>>,
+    pub blocks: ByDepth<Vec<Vec<u8>>>,
     pub drawings: Vec<Vec<u8>>,
     pub clips: Vec<Vec<u8>>,
-    /// Tables without \t, some of them at fault.
-    pub flat_tables: Vec<Vec<u32>>,
-    pub nested_tables: Vec<Vec<u32>>,
+    /// Some of them at fault.
+    pub tables: ByDepth<Vec<Vec<u32>>>,
     pub words: Vec<u32>,
     /// A block and a name that are as long as may be.
     pub block: Vec<u8>,
@@ -32,19 +42,13 @@ pub struct Inputs {
 
 impl Inputs {
     pub fn new() -> Self {
-        let (nested, flat) = block_texts().into_iter().partition(|text| with_t(text));
-        let faulty = faulty_tables().into_iter().map(|(table, _)| table);
-        let all = tables().into_iter().chain(faulty);
-        let (nested_tables, flat_tables) = all.partition(|table| has_transition(table));
         let drawings = drawing_texts();
         let scaled = drawings.iter().map(|text| [b"2,", &text[..]].concat());
         Inputs {
-            flat,
-            nested,
+            blocks: sorted(block_texts(), |text| text_depth(text)),
             clips: drawings.iter().cloned().chain(scaled).collect(),
             drawings,
-            flat_tables,
-            nested_tables,
+            tables: sorted(tables(), |table| table::depth(table)),
             words: vec![0; WORDS],
             block: vec![b'a'; MOST_BYTES],
             own: vec![b'b'; MOST_BYTES],
@@ -52,58 +56,109 @@ impl Inputs {
     }
 }
 
-/// The reader takes T for t.
-fn with_t(text: &[u8]) -> bool {
-    let pairs = text.windows(2);
-    pairs.into_iter().any(|two| two == b"\\t" || two == b"\\T")
+fn sorted<T>(inputs: Vec<T>, depth: impl Fn(&T) -> usize) -> ByDepth<Vec<T>> {
+    let mut rows = DEPTHS.map(|_| Vec::new());
+    for input in inputs {
+        let depth = depth(&input);
+        let row = DEPTHS.iter().position(|&(most, _)| depth <= most);
+        rows[row.expect("no \\t is read that is deeper")].push(input);
+    }
+    rows
 }
 
-/// Tables of blocks and of lines, random ones, and each \t of some with every acceleration.
+/// How deep the reader goes into the text: not at all where that is refused unread. Braces around it
+/// change nothing.
+fn text_depth(text: &[u8]) -> usize {
+    match refusal::text(text) {
+        Some(_) => 0,
+        None => overrides(text).depth,
+    }
+}
+
+/// Every depth, and one too deep.
+fn depths() -> impl Iterator<Item = usize> {
+    0..=MOST_DEPTH + 1
+}
+
+/// Tables of blocks and of lines, random ones, damaged ones, and ones nested to every depth.
 fn tables() -> Vec<Vec<u32>> {
-    let made = [texts::flat, texts::nested, texts::accelerated].map(|text| text(1_000));
+    let groups = [1, 8, 16].map(|depth| texts::nested(depth, 1_000));
+    let made = [texts::flat(1_000), texts::accelerated(1_000)];
+    let made = made.into_iter().chain(groups).map(String::into_bytes);
     let texts = block_texts().into_iter().chain(corners::texts());
-    let texts = texts.chain(made.map(String::into_bytes));
-    let read = texts.filter_map(Source::of_text).map(|source| source.words);
-    let mut tables: Vec<Vec<u32>> = read.collect();
-    tables.extend((0..500).map(|case| well_formed(&mut Random::new(1, case))));
-    let deep = corners::texts().last().and_then(Source::of_text);
-    tables.extend(corners::accelerated(
-        &deep.expect("the texts of lines are read").words,
-    ));
+    let read = texts.chain(made).filter_map(Source::of_text);
+    let mut tables: Vec<Vec<u32>> = read.map(|source| source.words).collect();
+    for case in 0..500 {
+        let random = &mut Random::new(1, case);
+        let mut table = well_formed(random);
+        tables.push(table.clone());
+        damage(random, &mut table);
+        tables.push(table);
+    }
+    tables.extend(faulty_tables().into_iter().map(|(table, _)| table));
+    tables.extend(depths().flat_map(nested_tables));
     tables
+}
+
+/// So many \t inside each other around nothing, around tags of each kind, and around these with a
+/// fault behind them; with every acceleration.
+fn nested_tables(depth: usize) -> impl Iterator<Item = Vec<u32>> {
+    let mut tags = good_records();
+    tags.retain(|record| record[0] != TRANSITION);
+    let fault = [0; WIDTH];
+    let tables = [vec![], tags.concat(), [tags, vec![fault]].concat().concat()];
+    tables.into_iter().flat_map(move |inside| {
+        let table = [around(depth, inside.len() / WIDTH), inside].concat();
+        corners::accelerated(&table).collect::<Vec<_>>()
+    })
 }
 
 fn block_texts() -> Vec<Vec<u8>> {
     let mut blocks = [texts::typical(), texts::scripts(), texts::refused()].concat();
-    let flat: String = texts::typical()
-        .into_iter()
-        .filter(|text| !text.contains("\\t"))
-        .collect();
-    let deeper = format!("{DEEP}\\t(");
-    for front in ["", "\\fs1e2", "\\fs1e9", DEEP, &deeper] {
-        for piece in [
-            &flat,
-            MIXED,
-            NUMERALS,
-            EXPONENTS,
-            "\\fs.123456789012345678e9",
-            "\\fs(\\fs(12.5 ",
-            "\\r",
-            " ",
-            "(",
-            "é",
-            "",
-        ] {
-            blocks.push(longest(front, piece));
+    let pieces = pieces();
+    for depth in depths() {
+        // Read in one run, in two, and refused.
+        for first in ["", "\\fs1e2", "\\fs1e9"] {
+            let front = format!("{first}{}", opened(depth));
+            blocks.extend(pieces.iter().map(|piece| longest(&front, piece)));
         }
     }
-    blocks.push(texts::deep());
+    blocks.extend([1, 8, 16].map(texts::longest_deep));
     let braced = texts::in_braces(&blocks);
     let written = blocks.into_iter().chain(braced).map(String::into_bytes);
     let made = [block, nested_block, raw_block]
         .into_iter()
         .flat_map(random);
     written.chain(made).collect()
+}
+
+/// What blocks are made of, at every depth.
+fn pieces() -> Vec<String> {
+    let typical = texts::typical().into_iter();
+    let flat = typical.filter(|text| !text.contains("\\t")).collect();
+    let mut pieces = vec![flat, of_each_kind()];
+    let others = [
+        MIXED,
+        NUMERALS,
+        EXPONENTS,
+        "\\fs.123456789012345678e9",
+        "\\t(1.5e2,2.5E-3,.123456789012345678e9,\\fs1e1)",
+        "\\fs(\\fs(12.5 ",
+        "\\r",
+        " ",
+        "(",
+        "é",
+        "",
+    ];
+    pieces.extend(others.map(str::to_owned));
+    pieces
+}
+
+/// A tag for each way in which a kind is evaluated, but for \t.
+fn of_each_kind() -> String {
+    let flat = texts::kinds().filter(|(name, _)| !name.contains("\\t "));
+    let tags = flat.map(|(_, tags)| tags.split('\\').nth(1).map(|tag| format!("\\{tag}")));
+    tags.flatten().collect()
 }
 
 fn drawing_texts() -> Vec<Vec<u8>> {
@@ -214,4 +269,34 @@ pub fn styles(lines: &[Arguments], block: &[u8], own: &[u8]) -> Vec<Arguments> {
 
 fn bytes_of(text: &[u8]) -> [u64; 2] {
     [text.as_ptr() as u64, text.len() as u64]
+}
+
+#[cfg(test)]
+mod tests {
+    use super::*;
+    use std::collections::HashSet;
+
+    #[test]
+    fn the_inputs_of_a_row_are_as_deep_as_it_says() {
+        let inputs = Inputs::new();
+        for ((texts, tables), (most, name)) in inputs.blocks.iter().zip(&inputs.tables).zip(DEPTHS)
+        {
+            let deepest = texts.iter().map(|text| text_depth(text)).max();
+            assert_eq!(deepest, Some(most), "{name}");
+            let deepest = tables.iter().map(|table| table::depth(table)).max();
+            assert_eq!(deepest, Some(most), "{name}");
+        }
+    }
+
+    #[test]
+    fn every_kind_stands_at_the_bottom() {
+        let reading = overrides(of_each_kind().as_bytes());
+        let kinds: HashSet<u32> = reading.kept.iter().map(|kept| kept.kind).collect();
+        assert_eq!(kinds, (1..TRANSITION).collect());
+        let tables: Vec<Vec<u32>> = nested_tables(16).collect();
+        assert!(tables.iter().all(|table| table::depth(table) == 16));
+        let records = tables.iter().flat_map(|table| table.chunks(WIDTH));
+        let kinds: HashSet<u32> = records.map(|record| record[0]).collect();
+        assert_eq!(kinds, (0..=TRANSITION).collect());
+    }
 }

@@ -92,8 +92,15 @@ pub const NUMERALS: &str = "\\pos(123456789.987654321,-640.123456789)\\fscx98765
 pub const EXPONENTS: &str = "\\fscx2.5E-3\\pos(1.25e2,3e+1)\\fay-7.8125E-02\\move(0e0,1.5e2,6.4e+2,4.8e+2)\
     \\frz-4.5e1\\org(3.203125e+02,1.8e+02)\\blur6e-1\\clip(1e2,2e2,5.4e2,2.8E2)";
 
-/// What stands before tags that are eight \t deep.
-pub const DEEP: &str = "\\t(0,100,\\t(\\t(2,\\t(\\t(\\t(\\t(\\t(";
+/// Tags that may stand in \t.
+pub const INNER: &str = "\\fscx123.25\\frz(-123.500)   ";
+
+/// What stands before tags that are so many \t deep.
+pub fn opened(depth: usize) -> String {
+    let numbers = ["0,100,", "", "2,", "", "", "", "", ""].iter().cycle();
+    let fronts = numbers.take(depth).map(|numbers| format!("\\t({numbers}"));
+    fronts.collect()
+}
 
 /// Lines, cubics and splines, thirteen bytes to a command.
 pub const DRAWN_MIX: &str = "m 10 0 l 290.5 0 b 296.25 0 300 4.5 300 10 l 300.5 50 310.25 55 \
@@ -121,11 +128,17 @@ pub fn longest(front: &str, piece: &str) -> String {
     front.to_owned() + &piece.repeat(pieces)
 }
 
-/// The longest block eight \t deep, closed.
-pub fn deep() -> String {
-    let mut text = longest(DEEP, "\\fscx123.25\\frz(-123.500)   ");
-    text.truncate(text.len() - 8);
-    text + &")".repeat(8)
+/// A short block so many \t deep.
+pub fn deep(depth: usize) -> String {
+    let (front, rest) = (opened(depth), ")".repeat(depth - 1));
+    format!("{front}\\fscx120\\frz-12.5)\\1a&H40&{rest}")
+}
+
+/// The longest block so many \t deep, closed.
+pub fn longest_deep(depth: usize) -> String {
+    let mut text = longest(&opened(depth), INNER);
+    text.truncate(text.len() - depth);
+    text + &")".repeat(depth)
 }
 
 /// So many records of accelerated \t, each with one tag inside.
@@ -140,17 +153,17 @@ pub fn accelerated(records: usize) -> String {
     pieces.copied().collect()
 }
 
-/// So many records in groups of eight \t, one inside the other, around a tag.
-pub fn nested(records: usize) -> String {
+/// So many records in groups of so many \t, one inside the other, around a tag.
+pub fn nested(depth: usize, records: usize) -> String {
     let mut text = String::new();
     let mut left = records;
     while left > 0 {
-        let group = left.min(9);
-        let depth = group.min(8);
-        let tag = if group == 9 { "\\frz9" } else { "" };
-        text += &"\\t(9,90,.5,".repeat(depth);
+        let group = left.min(depth + 1);
+        let around = group.min(depth);
+        let tag = if group > depth { "\\frz9" } else { "" };
+        text += &"\\t(9,90,.5,".repeat(around);
         text += tag;
-        text += &")".repeat(depth);
+        text += &")".repeat(around);
         left -= group;
     }
     text
@@ -234,15 +247,26 @@ mod tests {
         assert_eq!(kept(&longest("", NUMERALS)) % 4, 0);
         let exponents = kept(&longest("", EXPONENTS));
         assert!(exponents.is_multiple_of(8) && exponents <= MOST_PLACES);
-        assert!(kept(&deep()) > 800);
-        assert_eq!(kept(&repeated(DEEP, "\\b1", 40)), 10);
+    }
+
+    #[test]
+    fn deep_blocks_are_as_deep_as_they_say() {
+        assert_eq!(opened(8), "\\t(0,100,\\t(\\t(2,\\t(\\t(\\t(\\t(\\t(");
+        for depth in [1, 8, 16] {
+            assert_eq!(kept(&deep(depth)), depth + 3);
+            assert!(kept(&longest_deep(depth)) > 800);
+            for text in [deep(depth), longest_deep(depth), nested(depth, 100)] {
+                assert_eq!(overrides(text.as_bytes()).depth, depth);
+            }
+        }
     }
 
     #[test]
     fn blocks_have_the_records_asked_for() {
-        for records in [1, 8, 9, 10, 100, 1_000] {
+        for records in [1, 8, 9, 10, 16, 17, 18, 100, 1_000] {
             assert_eq!(kept(&flat(records)), records);
-            assert_eq!(kept(&nested(records)), records);
+            assert_eq!(kept(&nested(8, records)), records);
+            assert_eq!(kept(&nested(16, records)), records);
         }
         assert_eq!(kept(&accelerated(1_000)), 1_000);
     }

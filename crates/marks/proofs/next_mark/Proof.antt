@@ -11,7 +11,7 @@ use mir.Syntax.{w32}
 use mir.ValLaws.{toZ-ofZ}
 use Rattle.table.proofs.Grounds.{good-fine, in-time-size}
 use Rattle.marks.specs.Inner.{most}
-use Rattle.marks.specs.Answer.{marked}
+use Rattle.marks.specs.Answer.{markedTo}
 use Rattle.marks.proofs.Order.{ltZ-true}
 use Rattle.marks.proofs.Told.{told}
 use Rattle.marks.proofs.next_mark.Statement.{statement}
@@ -30,14 +30,14 @@ next-after-requires c κs =
     rw (toZ-ofZ w32 (s .args .t) (s .fits .t)) (below (s .args .t) (in-time-size (s .args .t) (g .instant)))
 
 returns : tie.Need-returns
-unfolding marked
+unfolding markedTo
 returns c =
     let s = c .before .before .before .before .before in
     let k = rw (toZ-ofZ w32 (s .args .t) (s .fits .t), toZ-ofZ w32 (s .args .dur) (s .fits .dur)) at (c .before .before .before .check-call .ensures) in
     told (s .args .table .now) (s .args .t) (s .args .dur) _ (rw (sym k ∙ c .before .r .given .1))
 
 returns-2 : tie.Need-returns-2
-unfolding marked
+unfolding markedTo
 returns-2 c =
     let s = c .before .before .before .before .before in
     let k = rw (toZ-ofZ w32 (s .args .t) (s .fits .t), toZ-ofZ w32 (s .args .dur) (s .fits .dur)) at (c .before .before .before .check-call .ensures) in

@@ -7,8 +7,9 @@ use Rattle.rows.specs.Rows.{laidRows}
 use Rattle.tag.specs.Table.{encode}
 use Rattle.plain.specs.Names.{keyAt, tKey}
 use Rattle.read.specs.Block.{parse}
-use Rattle.read.proofs.Walk.{parse-end, parse-skip, parse-bare, parse-tag, tag-t, tag-plain, t-none, less-left, count-step, next-past}
-use Rattle.read.specs.declared.Out.{Out}
+use Rattle.read.proofs.Walk.{parse-end, parse-skip, parse-bare, parse-tag, tag-t, t-none, less-left, count-step, next-past}
+use Rattle.read.specs.Inner.{Seen, seenOf}
+use Rattle.read.proofs.Seen.{plain-word, peel-word}
 use Rattle.read.proofs.Turn.{plain-told, t-told, Turning, turning-start, turning-turn, turning-end}
 use borrow.Fn.Kinds.{In}
 use borrow.Fn.PlainCycle.{Measures, is, falls, and}
@@ -29,6 +30,7 @@ use Rattle.read.proofs.joined.Reads as joined-reads
 use Rattle.read.proofs.keep.Reads as keep-reads
 use Rattle.scan.proofs.least.Reads as least-reads
 use Rattle.read.proofs.peel.Reads as peel-reads
+use Rattle.read.proofs.place_word.Reads as place-word-reads
 use Rattle.read.proofs.t_record.Reads as t-record-reads
 use Rattle.tag.proofs.put.Reads as put-reads
 use Rattle.read.proofs.+parse_one+parse_overrides_depth+parse_t.{statement}
@@ -79,7 +81,7 @@ abbrev calls-block : ℕ → parse-overrides-depth-lts.Claims
 calls-block t = (head-at-reads.Asked, head-at-reads.Learnt, least-reads.Asked, least-reads.Learnt, parse-one-below t, parse-one.Post, joined-reads.Asked, joined-reads.Learnt)
 
 abbrev calls-t : ℕ → parse-t-lts.Claims
-calls-t t = (peel-reads.Asked, peel-reads.Learnt, least-reads.Asked, least-reads.Learnt, parse-overrides-depth-below t, parse-overrides-depth.Post, t-record-reads.Asked, t-record-reads.Learnt, put-reads.Asked, put-reads.Learnt, around-reads.Asked, around-reads.Learnt)
+calls-t t = (peel-reads.Asked, peel-reads.Learnt, least-reads.Asked, least-reads.Learnt, parse-overrides-depth-below t, parse-overrides-depth.Post, t-record-reads.Asked, t-record-reads.Learnt, put-reads.Asked, put-reads.Learnt, place-word-reads.Asked, place-word-reads.Learnt, around-reads.Asked, around-reads.Learnt)
 
 parse-one-key-at-requires : (t : ℕ) → parse-one-lts.Need-key-at-requires (calls-one t) (parse-one-at t) parse-one.Post
 parse-one-key-at-requires t c κs = search needs
@@ -99,20 +101,33 @@ parse-one-plain-at-requires : (t : ℕ) → parse-one-lts.Need-plain-at-requires
 parse-one-plain-at-requires t c κs = search needs
 
 parse-one-keep-requires : (t : ℕ) → parse-one-lts.Need-keep-requires (calls-one t) (parse-one-at t) parse-one.Post
-parse-one-keep-requires t c κs = search needs
+parse-one-keep-requires t c κs = (search needs, plain-word _ _ _ _ _ _ _ (search needs) (search needs) (search needs) (c .before .plain-at .ensures))
 
 parse-one-same-length-2 : (t : ℕ) → parse-one-lts.Need-same-length-2 (calls-one t) (parse-one-at t) parse-one.Post
 parse-one-same-length-2 t c = search needs
 
 parse-one-returns-2 : (t : ℕ) → parse-one-lts.Need-returns-2 (calls-one t) (parse-one-at t) parse-one.Post
 parse-one-returns-2 t c =
-    let k = c .before .before .keep .ensures in
-    rw (tag-plain _ _ _ (c .before .before .before .before .before .before .before .before .before .args .h) (λ z. c .before .before .before .before .before .if1 .left (c .before .before .before .before .before .before .key-at .ensures ∙ z)))
-    (plain-told _ _ _ _ _ _ _ _ _ _ _ (search needs) (c .before .before .before .before .plain-at .ensures) (k .0) (k .1))
+    let r = c .before .before .before .before .before .before .before in
+    plain-told _ _ _ (r .before .before .before .before .args .h) _ _ _ _ _ (λ z. r .if1 .left (r .before .key-at .ensures ∙ z)) (c .before .before .before .before .before .if2 .taken) (c .before .before .before .before .plain-at .ensures) (c .before .before .keep .ensures)
+
+parse-one-plain-at-requires-2 : (t : ℕ) → parse-one-lts.Need-plain-at-requires-2 (calls-one t) (parse-one-at t) parse-one.Post
+parse-one-plain-at-requires-2 t c κs = search needs
+
+parse-one-keep-requires-2 : (t : ℕ) → parse-one-lts.Need-keep-requires-2 (calls-one t) (parse-one-at t) parse-one.Post
+parse-one-keep-requires-2 t c κs = (search needs, plain-word _ _ _ _ _ _ _ (search needs) (search needs) (search needs) (c .before .plain-at2 .ensures))
+
+parse-one-same-length-3 : (t : ℕ) → parse-one-lts.Need-same-length-3 (calls-one t) (parse-one-at t) parse-one.Post
+parse-one-same-length-3 t c = search needs
+
+parse-one-returns-3 : (t : ℕ) → parse-one-lts.Need-returns-3 (calls-one t) (parse-one-at t) parse-one.Post
+parse-one-returns-3 t c =
+    let r = c .before .before .before .before .before .before .before in
+    plain-told _ _ _ (r .before .before .before .before .args .h) _ _ _ _ _ (λ z. r .if1 .left (r .before .key-at .ensures ∙ z)) (refl) (c .before .before .before .before .plain-at2 .ensures) (c .before .before .keep2 .ensures)
 
 abbrev parse-overrides-depth-Inv-loop : parse-overrides-depth-lts.InvT-loop
 parse-overrides-depth-Inv-loop text from to depth table₀ i₀ out₀ table i out =
-    (from ≤ i) × (i ≤ to) × (out .n ≤ i - from) × Turning table₀ (parse depth text from to) (parse depth text i to) table out
+    (from ≤ i) × (i ≤ to) × (out .n ≤ i - from) × Turning table₀ (parse depth text from to) (parse depth text i to) table (seenOf out)
 
 abbrev parse-overrides-depth-μ-loop : parse-overrides-depth-lts.MeasureT-loop
 parse-overrides-depth-μ-loop text from to depth table₀ i₀ out₀ table i out = to - i
@@ -142,6 +157,9 @@ parse-overrides-depth-loop-again t c =
     let h = c .before .before .head-at in
     let k = parse-bare (a .depth) (a .text .now) (l .i) (a .to) (h .result) (c .before .before .before .before .before .loop-test .taken) (c .before .before .before .if1 .taken) (h .ensures .0 .is) (c .if2 .taken) in
     (search needs, search needs, search needs, rw k at (l .inv .3))
+
+parse-overrides-depth-cast-least : (t : ℕ) → parse-overrides-depth-lts.Need-cast-least (calls-block t) (parse-overrides-depth-at t) parse-overrides-depth.Post parse-overrides-depth-Inv-loop parse-overrides-depth-μ-loop
+parse-overrides-depth-cast-least t c = search needs
 
 parse-overrides-depth-mul-least : (t : ℕ) → parse-overrides-depth-lts.Need-mul-least (calls-block t) (parse-overrides-depth-at t) parse-overrides-depth.Post parse-overrides-depth-Inv-loop parse-overrides-depth-μ-loop
 parse-overrides-depth-mul-least t c = search needs
@@ -179,7 +197,7 @@ parse-overrides-depth-loop-again-2 t c =
     let h = c .before .before .before .before .before .before .before .before .before .head-at in
     let o = c .before .before .before .parse-one in
     let k = parse-tag (a .depth) (a .text .now) (l .i) (a .to) (h .result) (c .before .before .before .before .before .before .before .before .before .before .before .before .loop-test .taken) (c .before .before .before .before .before .before .before .before .before .before .if1 .taken) (h .ensures .0 .is) (c .before .before .before .before .before .before .before .if2 .left) in
-    (search needs, search needs, rw (ap (λ (x : Out). x .n) (c .joined .ensures)) (count-step _ _ _ _ _ _ _ _ (l .inv .0) (l .inv .2) (o .ensures .few) (h .ensures .1) (rw (h .ensures .0 .end-is) (h .ensures .0 .low)) (h .ensures .0 .order) (h .ensures .0 .next-low)), turning-turn (rw k at (l .inv .3)) (c .before .before .before .before .before .least .ensures) (o .ensures) (c .joined .ensures))
+    (search needs, search needs, rw (ap (λ (x : Seen). x .n) (c .joined .ensures)) (count-step _ _ _ _ _ _ _ _ (l .inv .0) (l .inv .2) (o .ensures .few) (h .ensures .1) (rw (h .ensures .0 .end-is) (h .ensures .0 .low)) (h .ensures .0 .order) (h .ensures .0 .next-low)), turning-turn (rw k at (l .inv .3)) (c .before .before .before .before .before .least .ensures) (o .ensures) (c .joined .ensures))
 
 parse-overrides-depth-add-i-2 : (t : ℕ) → parse-overrides-depth-lts.Need-add-i-2 (calls-block t) (parse-overrides-depth-at t) parse-overrides-depth.Post parse-overrides-depth-Inv-loop parse-overrides-depth-μ-loop
 parse-overrides-depth-add-i-2 t c = search needs
@@ -232,25 +250,27 @@ parse-t-part-parse-overrides-depth-end t c = search needs
 parse-t-parse-overrides-depth-requires : (t : ℕ) → parse-t-lts.Need-parse-overrides-depth-requires (calls-t t) (parse-t-at t) parse-t.Post
 parse-t-parse-overrides-depth-requires t c κs = search needs
 
-parse-t-cast-t-record : (t : ℕ) → parse-t-lts.Need-cast-t-record (calls-t t) (parse-t-at t) parse-t.Post
-parse-t-cast-t-record t c = search needs
-
 parse-t-t-record-requires : (t : ℕ) → parse-t-lts.Need-t-record-requires (calls-t t) (parse-t-at t) parse-t.Post
 parse-t-t-record-requires t c κs = search needs
 
 parse-t-put-requires : (t : ℕ) → parse-t-lts.Need-put-requires (calls-t t) (parse-t-at t) parse-t.Post
 parse-t-put-requires t c κs = search needs
 
+parse-t-place-word-requires : (t : ℕ) → parse-t-lts.Need-place-word-requires (calls-t t) (parse-t-at t) parse-t.Post
+parse-t-place-word-requires t c κs =
+    let r = c .before .before .before .before .before .before .before .before .before .before .before in
+    peel-word _ _ _ _ (search needs) (search needs) (r .peel .ensures)
+
 parse-t-around-requires : (t : ℕ) → parse-t-lts.Need-around-requires (calls-t t) (parse-t-at t) parse-t.Post
 parse-t-around-requires t c κs = omega (arith, c .before .before .before .before .before .before .before .before .before .parse-overrides-depth .ensures .few, c .before .before .before .before .before .before .before .before .before .before .before .before .before .before .before .before .pre)
 
 parse-t-same-length : (t : ℕ) → parse-t-lts.Need-same-length (calls-t t) (parse-t-at t) parse-t.Post
-parse-t-same-length t c = c .before .before .before .put .kept .0 ∙ c .before .before .before .before .before .before .before .before .before .table .given .1
+parse-t-same-length t c = c .before .before .before .before .put .kept .0 ∙ c .before .before .before .before .before .before .before .before .before .table .given .1
 
 parse-t-returns-2 : (t : ℕ) → parse-t-lts.Need-returns-2 (calls-t t) (parse-t-at t) parse-t.Post
 parse-t-returns-2 t c =
     let r = c .before .before .before .before .before .before .before .before .before .before in
-    t-told _ _ _ _ _ _ _ _ _ _ _ _ (r .before .before .before .before .if1 .left) (r .before .before .before .peel .ensures) (r .parse-overrides-depth .ensures) (r .before .before .least .ensures) (c .before .before .before .before .t-record .ensures) (c .before .before .before .put .ensures) (c .around .ensures)
+    t-told _ _ _ _ _ _ _ _ _ _ _ _ (r .before .before .before .before .if1 .left) (r .before .before .before .peel .ensures) (r .parse-overrides-depth .ensures) (r .before .before .least .ensures) (c .before .before .before .before .before .t-record .ensures) (c .before .before .before .before .put .ensures) (rw (c .before .place-word .ensures) at (c .around .ensures))
 
 pub +parse-one+parse-overrides-depth+parse-t-spec : {M : Type 1} → statement M
 +parse-one+parse-overrides-depth+parse-t-spec =
@@ -264,7 +284,11 @@ pub +parse-one+parse-overrides-depth+parse-t-spec : {M : Type 1} → statement M
     (parse-one-plain-at-requires t)
     (parse-one-keep-requires t)
     (parse-one-same-length-2 t)
-    (parse-one-returns-2 t))
+    (parse-one-returns-2 t)
+    (parse-one-plain-at-requires-2 t)
+    (parse-one-keep-requires-2 t)
+    (parse-one-same-length-3 t)
+    (parse-one-returns-3 t))
     (λ t. parse-overrides-depth-lts.spec (calls-block t) (parse-overrides-depth-at t) parse-overrides-depth.Post parse-overrides-depth-Inv-loop parse-overrides-depth-μ-loop
     (parse-overrides-depth-loop-holds t)
     (parse-overrides-depth-shared-slice-read-if1 t)
@@ -273,6 +297,7 @@ pub +parse-one+parse-overrides-depth+parse-t-spec : {M : Type 1} → statement M
     (parse-overrides-depth-add-i t)
     (parse-overrides-depth-loop-less t)
     (parse-overrides-depth-loop-again t)
+    (parse-overrides-depth-cast-least t)
     (parse-overrides-depth-mul-least t)
     (parse-overrides-depth-least-requires t)
     (parse-overrides-depth-mul-parse-one t)
@@ -300,9 +325,9 @@ pub +parse-one+parse-overrides-depth+parse-t-spec : {M : Type 1} → statement M
     (parse-t-part-parse-overrides-depth-start t)
     (parse-t-part-parse-overrides-depth-end t)
     (parse-t-parse-overrides-depth-requires t)
-    (parse-t-cast-t-record t)
     (parse-t-t-record-requires t)
     (parse-t-put-requires t)
+    (parse-t-place-word-requires t)
     (parse-t-around-requires t)
     (parse-t-same-length t)
     (parse-t-returns-2 t)

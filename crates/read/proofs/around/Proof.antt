@@ -3,9 +3,9 @@ use Rattle.read.proofs.around.Statement.{statement}
 use Rattle.read.proofs.around.Tie as tie
 
 returns : tie.Need-returns
-returns c = rw (c .before .first .ensures)
+returns c = rw (c .first-place .ensures)
 
 pub around-spec : {M : Type 1} → statement M
 around-spec = tie.close
     (tie.spec
-    (λ c κs. search needs) (λ c. search needs) returns)
+    (λ c. search needs) (λ c κs. search needs) returns)
