@@ -41,6 +41,7 @@ use Rattle.read.proofs.Walk.{tag-plain, t-more}
 
 -- ---- a plain tag
 
+-- the code's words say what the definitions give
 one-seen : (i : ℕ) (x : One) (t : List ℕ) → Single x → (keptGot i (keptOf x) ≡ seenIn (oneGot i x)) × (laid t (keptRecords (keptOf x)) ≡ laid t (encode (oneGot i x .tags)))
 unfolding encode laidRows records count
 one-seen i no t s = (refl, refl)
@@ -48,6 +49,7 @@ one-seen i (long p) t s = (refl, refl)
 one-seen i (kept x) t s = (rw (count-single x s), rw s)
 one-seen i (far x) t s = (rw (count-single x s), rw s)
 
+-- what `parse_one` says, from what its calls say; p is where the parameter begins, as the code has it
 module _ (inner : ℕ → ℕ → Got) (s : List ℕ) (i : ℕ) (h : Head) (p : ℕ) (t : List ℕ) (k : Kept) (r : Out) (u : List ℕ) where
   pub plain-told : ¬ (keyAt s (h .name) (h .end) ≡ tKey) → h .p ≡ p → k ≡ keptOf (plainAt s (h .name) (h .end) p (h .q)) → (seenOf r ≡ keptGot i k) × (u ≡ laid t (keptRecords k)) × (r .n ≤ 1)
       → Told t (tagAt inner s i h) (h .q - h .p + 1) r u

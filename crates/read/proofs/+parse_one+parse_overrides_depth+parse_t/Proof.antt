@@ -123,7 +123,7 @@ parse-one-same-length-3 t c = search needs
 parse-one-returns-3 : (t : ℕ) → parse-one-lts.Need-returns-3 (calls-one t) (parse-one-at t) parse-one.Post
 parse-one-returns-3 t c =
     let r = c .before .before .before .before .before .before .before in
-    plain-told _ _ _ (r .before .before .before .before .args .h) _ _ _ _ _ (λ z. r .if1 .left (r .before .key-at .ensures ∙ z)) (refl) (c .before .before .before .before .plain-at2 .ensures) (c .before .before .keep2 .ensures)
+    plain-told _ _ _ (r .before .before .before .before .args .h) _ _ _ _ _ (λ z. r .if1 .left (r .before .key-at .ensures ∙ z)) refl (c .before .before .before .before .plain-at2 .ensures) (c .before .before .keep2 .ensures)
 
 abbrev parse-overrides-depth-Inv-loop : parse-overrides-depth-lts.InvT-loop
 parse-overrides-depth-Inv-loop text from to depth table₀ i₀ out₀ table i out =

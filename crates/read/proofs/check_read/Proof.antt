@@ -1,3 +1,5 @@
+use Prim.Native.Nat.{min}
+use Rattle.refusal.specs.Refusal.{mostPlaces}
 use Rattle.read.specs.Reading.{readGround}
 use borrow.Author.Tests.{eq-eqb, ne-eqb, le-leb, lt-leb}
 use borrow.Author.Needs.{needs}
@@ -14,11 +16,11 @@ returns-2 c = rw (eq-eqb _ _ (c .before .before .before .if1 .left), ne-eqb _ _ 
 
 returns-3 : tie.Need-returns-3
 unfolding readGround
-returns-3 c = rw (eq-eqb _ _ (c .before .before .before .before .before .before .if1 .left), eq-eqb _ _ (c .before .before .before .before .if2 .left), ← c .before .before .least .ensures, le-leb _ _ (c .before .if3 .taken))
+returns-3 c = rw (eq-eqb _ _ (c .before .before .before .before .before .before .if1 .left), eq-eqb _ _ (c .before .before .before .before .if2 .left), le-leb _ (min _ mostPlaces) (rw (c .before .before .least .ensures) at (c .before .if3 .taken)))
 
 returns-4 : tie.Need-returns-4
 unfolding readGround
-returns-4 c = rw (eq-eqb _ _ (c .before .before .before .before .before .before .if1 .left), eq-eqb _ _ (c .before .before .before .before .if2 .left), ← c .before .before .least .ensures, lt-leb _ _ (c .before .if3 .left))
+returns-4 c = rw (eq-eqb _ _ (c .before .before .before .before .before .before .if1 .left), eq-eqb _ _ (c .before .before .before .before .if2 .left), lt-leb _ (min _ mostPlaces) (rw (c .before .before .least .ensures) at (c .before .if3 .left)))
 
 pub check-read-spec : {M : Type 1} → statement M
 check-read-spec =
