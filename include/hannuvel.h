@@ -20,13 +20,13 @@
  * Stack. The most bytes that a call uses, by how many \t stand inside each other in its text or table:
  *
  *                         none       1       8      16
- *     parse_overrides    1,024   1,280   3,200   5,376
- *     parse_raw_block    1,024   1,280   3,200   5,376
- *     evaluate_at        1,024   1,728   6,400  11,776
+ *     parse_overrides    1,024   1,344   3,200   5,376
+ *     parse_raw_block    1,024   1,344   3,200   5,376
+ *     evaluate_at        1,088   1,728   6,464  11,840
  *     next_mark            320     448   1,344   2,368
  *     karaoke_spans        192     320   1,216   2,240
  *     style_in_force       320     448   1,344   2,368
- *     parse_drawing        832
+ *     parse_drawing        896
  *     split_clip_arg       192
  *     progress              64
  *
@@ -36,8 +36,8 @@
  *     text of bytes       none       1       8      16
  *      1,024             1,024   1,024   1,024   1,024
  *      4,096             1,024   1,024   1,024   1,024
- *      8,192             1,024   1,024   1,024     900
- *     12,288             1,024   1,024     940     772
+ *      8,192             1,024   1,024   1,024     898
+ *     12,288             1,024   1,024     938     770
  */
 #ifndef HANNUVEL_H
 #define HANNUVEL_H

@@ -60,12 +60,12 @@ fn text_rows(inputs: &mut Inputs) -> Vec<Row> {
     let clip = library::hannuvel_split_clip_arg().map(|call| call as *const ());
     let words = &mut inputs.words;
     let blocks = inputs.blocks.each_ref().map(|texts| reading(texts, words));
-    let most = [1_024, 1_280, 3_200, 5_376];
+    let most = [1_024, 1_344, 3_200, 5_376];
     let mut rows = Vec::new();
     rows.extend(by_depth("parse_overrides", overrides, &blocks, most));
     rows.extend(by_depth("parse_raw_block", raw, &blocks, most));
     let drawings = drawings(&inputs.drawings, words);
-    rows.push(row("parse_drawing", drawing, drawings, 832));
+    rows.push(row("parse_drawing", drawing, drawings, 896));
     rows.push(row("split_clip_arg", clip, clips(&inputs.clips), 192));
     rows
 }
@@ -80,7 +80,7 @@ fn table_rows(inputs: &mut Inputs) -> Vec<Row> {
     let lines = inputs.tables.each_ref().map(|tables| lines(tables, words));
     let spans = inputs.tables.each_ref().map(|tables| spans(tables, words));
     let styles = lines.each_ref().map(|lines| styles(lines, block, own));
-    let most = [1_024, 1_728, 6_400, 11_776];
+    let most = [1_088, 1_728, 6_464, 11_840];
     let mut rows = Vec::new();
     rows.extend(by_depth(EVALUATE, evaluate, &lines, most));
     let most = [320, 448, 1_344, 2_368];
