@@ -2,7 +2,7 @@
 use Prim.Native.Nat.{ℕ, suc, _+_, _-_, _*_, _/_, _^_, min}
 use mathlib.Core.Bool.{Bool, false, cond, _&&_}
 use lib.IntN.{ℤ, pos, negsuc, negℤ}
-use lib.Dec.{ltb}
+use lib.Dec.{T, ltb}
 use lib.Ieee.{Float, nan, inf, fin, binary32, add, sub, mul, div, neg, lt, le, ofBits, ofInt}
 use lib.Ieee.Positive.{num, den}
 
@@ -22,6 +22,11 @@ maxZero x = cond (lt zero x) x zero
 unfoldable pub clamp : Float → Float → Float → Float
 unfolding lt
 clamp x lo hi = cond (lt x lo) lo (cond (lt hi x) hi x)
+
+-- from 0 to 1, both among them, and so no NaN: 01, Karaoke, of progress, and 02, N8, of opacity
+pub record InUnit (x : Float) : Type 0 where
+  pub low : T (le zero x)
+  pub high : T (le x one)
 
 -- lerp_f32 of the Rust
 unfoldable pub lerp : Float → Float → Float → Float

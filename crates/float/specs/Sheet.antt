@@ -2,9 +2,9 @@
 use mathlib.Core.Path.{_≡_, refl}
 use mathlib.Core.Bool.{true, false}
 use lib.IntN.{pos, negsuc}
-use lib.Ieee.{nan, inf, fin, binary32, round, ofBits, toBits, ofInt, toSigned, toUnsigned}
+use lib.Ieee.{nan, inf, fin, binary32, round, ofBits, toBits, ofInt, toSigned, toUnsigned, le}
 use Rattle.decimal.specs.Decimal.{decimal}
-use Rattle.float.specs.Float.{zero, one, maxZero, clamp, lerp, toRadians, reach, billion, inReach, roundAway, roundByte, toWord, ofWord}
+use Rattle.float.specs.Float.{zero, one, maxZero, clamp, InUnit, lerp, toRadians, reach, billion, inReach, roundAway, roundByte, toWord, ofWord}
 
 -- max(0.0) of -0 and of a NaN is plus zero
 max-minus-zero : maxZero (fin true 0 (pos 0)) ≡ zero
@@ -23,6 +23,24 @@ clamp-minus-zero = refl
 clamp-nan : clamp nan zero one ≡ nan
 unfolding clamp
 clamp-nan = refl
+
+-- 0, 1 and a half are within 0 to 1; the next f32 after 1 and a NaN are not
+unit-ends : InUnit zero × (InUnit one × InUnit (decimal false 5 1))
+unfolding le round
+unit-ends = (record { low = tt; high = tt }, (record { low = tt; high = tt }, record { low = tt; high = tt }))
+
+above-one : le (ofBits binary32 0x3F800001) one ≡ false
+unfolding le ofBits
+above-one = refl
+
+nan-nowhere : (le zero nan ≡ false) × (le nan one ≡ false)
+unfolding le
+nan-nowhere = (refl, refl)
+
+-- from 2 ^ -25 to 1 at 1: 1 - 2 ^ -25 rounds to 1, and 1 + 2 ^ -25 back to 1
+lerp-to-one : lerp (fin false 1 (negsuc 24)) one one ≡ one
+unfolding lerp round
+lerp-to-one = refl
 
 -- from 20 to 40 at a quarter is 25
 lerp-quarter : toBits binary32 (lerp (decimal false 20 0) (decimal false 40 0) (decimal false 25 2)) ≡ 0x41C80000
