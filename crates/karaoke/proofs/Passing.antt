@@ -15,7 +15,7 @@ use borrow.Author.Tests.{le-leb, lt-leb, le-ltb, leb-false}
 use Rattle.scan.specs.Scan.{pick, both, either}
 use Rattle.state.specs.Mix.{quotient}
 use Rattle.ramp.proofs.Ints.{dist-is}
-use Rattle.float.specs.Float.{zero}
+use Rattle.float.specs.Float.{zero, InUnit}
 use Rattle.refusal.specs.Answer.{Stands}
 use Rattle.refusal.specs.declared.Refusal.{Refusal}
 use Rattle.refusal.specs.declared.Refusal.the-variants.{TimeOutOfRange}
@@ -25,8 +25,8 @@ use Rattle.table.specs.Ground.{inTime, timeGround}
 use Rattle.karaoke.specs.declared.KaraokeSpan.{KaraokeSpan}
 use Rattle.karaoke.specs.declared.Progressed.{Progressed}
 use Rattle.karaoke.specs.Karaoke.{mostMs}
-use Rattle.karaoke.specs.Progress.{whole, progressIn, instantGround, progressedOr, progressed, groundOf, progressOf, ProgressStands, InUnit}
-use Rattle.karaoke.proofs.Unit.{in-unit}
+use Rattle.karaoke.specs.Progress.{whole, progressIn, instantGround, progressedOr, progressed, groundOf, progressOf, ProgressStands}
+use Rattle.karaoke.proofs.Unit.{progress-in-unit}
 
 -- before the line begins
 pub before-all : (start end : ℕ) (t : ℤ) → ltZ t (pos 0) ≡ true → ofBits binary32 0 ≡ progressIn (pos start) (pos end) t
@@ -101,4 +101,4 @@ stands (Bad r) x = record { ground = refl; value = refl }
 
 pub told : (s : KaraokeSpan) (t : ℤ) {r : Progressed} → s .«end_ms» .0 ≤ mostMs → r ≡ progressed s t → (r ≡ progressed s t) × (ProgressStands s t r × InUnit (progressOf r))
 unfolding progressed
-told s t m e = (e, (rw e (stands (instantGround t) (progressIn (whole (s .«start_ms»)) (whole (s .«end_ms»)) t)), rw e (in-unit s t m)))
+told s t m e = (e, (rw e (stands (instantGround t) (progressIn (whole (s .«start_ms»)) (whole (s .«end_ms»)) t)), rw e (progress-in-unit s t m)))

@@ -1,86 +1,26 @@
 -- 01, Karaoke: progress is 0 up to the start, and within 0 to 1 always. (1 from the end on: Passing.antt.)
-use mathlib.Core.Path.{_≡_, refl, sym, subst}
+use mathlib.Core.Path.{_≡_, refl}
 use mathlib.Core.Bool.{true, false}
 use mathlib.Core.Logic.{⊎-elim}
-use Prim.Native.Nat.{ℕ, _-_, _*_, _≤_, _<_}
-use native.Mathlib.Nat.{mul-pos, zero-lt-suc}
+use Prim.Native.Nat.{ℕ, _-_, _≤_, _<_}
 use native.Mathlib.Omega.{arith}
-use lib.Dec.{T, ltb→lt}
+use lib.Dec.{T}
 use lib.IntN.{ℤ, pos, negsuc, _-ℤ_}
 use lib.Signed.{leZ}
-use lib.Ieee.{Float, nan, inf, fin, binary32, fits, round, div, le, ofInt}
+use lib.Ieee.{binary32, fits, ofInt}
 use lib.Ieee.Fits.{div-fits}
-use lib.Ieee.Order.{round-mono}
-use lib.Ieee.Positive.{num, den, positive, den-pos, own-value, value-pos, le→cross, between}
-use borrow.Author.Tests.{le-leb, lt-leb, ne-eqb}
+use borrow.Author.Tests.{le-leb, lt-leb}
 use Rattle.scan.specs.Scan.{either}
 use Rattle.scan.proofs.Laws.{le-or-lt, picked}
-use Rattle.float.specs.Float.{zero, one}
+use Rattle.float.specs.Float.{zero, one, InUnit}
+use Rattle.float.proofs.Unit.{Unit, unit-zero, unit-one, unit-quotient, in-unit}
 use Rattle.refusal.specs.declared.Checked.{Checked}
 use Rattle.refusal.specs.declared.Checked.the-variants.{Good, Bad}
-use Rattle.state.specs.Mix.{quotient, ofNat}
+use Rattle.state.specs.Mix.{quotient}
 use Rattle.ramp.proofs.Ints.{dist-is}
 use Rattle.karaoke.specs.declared.KaraokeSpan.{KaraokeSpan}
 use Rattle.karaoke.specs.Karaoke.{mostMs}
-use Rattle.karaoke.specs.Progress.{whole, progressIn, instantGround, progressedOr, progressed, progressOf, InUnit}
-
--- ---- a quotient of two rounded numbers
-
-one-is : round binary32 false 1 1 ≡ one
-unfolding round
-one-is = refl
-
-zero-is : round binary32 false 0 1 ≡ zero
-unfolding round
-zero-is = refl
-
-pub unit-zero : InUnit zero
-unfolding le
-unit-zero = record { low = tt; high = tt }
-
-pub unit-one : InUnit one
-unfolding le
-unit-one = record { low = tt; high = tt }
-
--- a whole number from 1 to 2 ^ 32 as the nearest f32 is above 0
-whole-positive : (n : ℕ) → 0 < n → n ≤ 4294967296 → T (positive (ofNat n))
-unfolding ofInt round
-whole-positive n h g = between (round binary32 false 1 1) (round binary32 false n 1) (round binary32 false 4294967296 1) tt tt (round-mono binary32 1 1 n 1 (zero-lt-suc 0) (zero-lt-suc 0) (omega arith)) (round-mono binary32 n 1 4294967296 1 (zero-lt-suc 0) (zero-lt-suc 0) (omega arith))
-
-num-pos : (x : Float) → T (positive x) → 0 < num x
-num-pos x p = value-pos x (num x) (den x) p (den-pos x) (own-value x p)
-
-div-is : (x y : Float) → T (positive x) → T (positive y) → div binary32 x y ≡ round binary32 false (num x * den y) (num y * den x)
-unfolding div
-div-is nan y p q = absurd p
-div-is (inf s) y p q = absurd p
-div-is (fin true m e) y p q = absurd p
-div-is (fin false m e) nan p q = absurd q
-div-is (fin false m e) (inf t) p q = absurd q
-div-is (fin false m e) (fin true n d) p q = absurd q
-div-is (fin false m e) (fin false n d) p q = let h = ltb→lt 0 n q in rw (ne-eqb n 0 (λ z. omega arith))
-
-unit-round : (a b : ℕ) → 0 < b → a ≤ b → InUnit (round binary32 false a b)
-unit-round a b h g =
-    record {
-      low = subst (λ (z : Float). T (le z (round binary32 false a b))) zero-is (round-mono binary32 0 1 a b (zero-lt-suc 0) h (omega arith));
-      high = subst (λ (z : Float). T (le (round binary32 false a b) z)) one-is (round-mono binary32 a b 1 1 h (zero-lt-suc 0) (omega arith));
-    }
-
-mono : (a b : ℕ) → a ≤ b → T (le (ofNat a) (ofNat b))
-unfolding ofInt
-mono a b g = round-mono binary32 a 1 b 1 (zero-lt-suc 0) (zero-lt-suc 0) (omega arith)
-
-pub unit-quotient : (a b : ℕ) → 0 < a → a ≤ b → b ≤ mostMs → InUnit (quotient (pos a) (pos b))
-unfolding quotient
-unit-quotient a b h g m =
-    let x = ofNat a in
-    let y = ofNat b in
-    let p = whole-positive a h (omega arith) in
-    let q = whole-positive b (omega arith) (omega arith) in
-    subst InUnit (sym (div-is x y p q)) (unit-round (num x * den y) (num y * den x) (mul-pos (num-pos y q) (den-pos x)) (le→cross x y p q (mono a b g)))
-
--- ---- progress
+use Rattle.karaoke.specs.Progress.{whole, progressIn, instantGround, progressedOr, progressed, progressOf}
 
 -- up to the start
 pub up-to-start : (start end t : ℤ) → leZ t start ≡ true → progressIn start end t ≡ zero
@@ -89,8 +29,8 @@ up-to-start start end t h = rw h
 
 module _ (start end : ℕ) (m : end ≤ mostMs) where
   -- at an instant from 0 on
-  unit-at : (n : ℕ) → InUnit (progressIn (pos start) (pos end) (pos n))
-  unfolding progressIn
+  unit-at : (n : ℕ) → Unit (progressIn (pos start) (pos end) (pos n))
+  unfolding progressIn quotient
   unit-at n =
       ⊎-elim
       (λ (h : n ≤ start). rw (le-leb n start h) unit-zero)
@@ -109,18 +49,18 @@ module _ (start end : ℕ) (m : end ≤ mostMs) where
       (le-or-lt end n))
       (le-or-lt n start)
 
-  unit-in : (t : ℤ) → InUnit (progressIn (pos start) (pos end) t)
+  unit-in : (t : ℤ) → Unit (progressIn (pos start) (pos end) t)
   unit-in (pos n) = unit-at n
   unit-in (negsuc n) = rw (up-to-start (pos start) (pos end) (negsuc n) refl) unit-zero
 
 -- whatever the span and the instant, beside a refusal too
-pub in-unit : (s : KaraokeSpan) (t : ℤ) → s .«end_ms» .0 ≤ mostMs → InUnit (progressOf (progressed s t))
+pub progress-in-unit : (s : KaraokeSpan) (t : ℤ) → s .«end_ms» .0 ≤ mostMs → InUnit (progressOf (progressed s t))
 unfolding progressed
-in-unit s t m = go (instantGround t)
+progress-in-unit s t m = go (instantGround t)
   where
     go : (c : Checked) → InUnit (progressOf (progressedOr c (progressIn (whole (s .«start_ms»)) (whole (s .«end_ms»)) t)))
-    go Good = unit-in (s .«start_ms» .0) (s .«end_ms» .0) m t
-    go (Bad r) = unit-zero
+    go Good = in-unit _ (unit-in (s .«start_ms» .0) (s .«end_ms» .0) m t)
+    go (Bad r) = in-unit zero unit-zero
 
 -- ---- and an f32
 

@@ -1,8 +1,7 @@
 -- 01, Karaoke: `progress` of a span at an instant, and ground 6.
 use lib.IntN.{ℤ, pos, _-ℤ_}
 use lib.Signed.{leZ}
-use lib.Dec.{T}
-use lib.Ieee.{Float, le}
+use lib.Ieee.{Float}
 use Rattle.scan.specs.Scan.{pick, either}
 use Rattle.float.specs.Float.{zero, one}
 use Rattle.refusal.specs.Answer.{Stands}
@@ -50,10 +49,3 @@ progressOf (Progressed.Refused r) = zero
 -- what stands for the answer to a span and an instant
 abbrev pub ProgressStands : KaraokeSpan → ℤ → Progressed → Type 0
 ProgressStands s t r = Stands (instantGround t) zero (progressIn (whole (s .«start_ms»)) (whole (s .«end_ms»)) t) (groundOf r) (progressOf r)
-
--- ---- what holds of it
-
--- within 0 to 1
-pub record InUnit (x : Float) : Type 0 where
-  pub low : T (le zero x)
-  pub high : T (le x one)
