@@ -9,7 +9,6 @@ use Rattle.scan.specs.Scan.{trimStart, trimEnd}
 use Rattle.scan.proofs.Bounds.{trim-start-low, trim-end-high}
 use Rattle.numeral.specs.Numeral.{F32, number, tooLong, f32At, f32Of}
 use Rattle.numeral.proofs.Reach.{Bounded, number-in-reach}
-use Rattle.tag.specs.WellFormed.{All, all, more}
 use Rattle.survey.specs.Survey.{Unplain}
 use Rattle.survey.proofs.Laws.{unplain-wider}
 use Rattle.survey.proofs.Long.{Ends, long-first, long-unplain}
@@ -64,7 +63,3 @@ pub f32-in : (s : List ℕ) (top p q : ℕ) → q ≤ top → Ends s top q → F
 f32-in s top p q h f =
     let a = trimStart s p q in
     f32-wider (trim-start-low s p q) (trim-end-high s a q) (f32-of-in s a (trimEnd s a q) top (le-trans (trim-end-high s a q) h) (trim-ends s top a q f))
-
-pub all-map : {A : Type 0} {P Q : A → Type 0} → ((x : A) → P x → Q x) → {l : List A} → All P l → All Q l
-all-map f all = all
-all-map f (more {x = x} h l) = more (f x h) (all-map f l)

@@ -40,8 +40,9 @@ use Rattle.plain.proofs.Commas.{ints-read}
 use Rattle.plain.proofs.Every.{Every, gather}
 use Rattle.scan.proofs.Bounds.{tested, span-to-high, trim-start-low, trim-end-high}
 use Rattle.tag.specs.WellFormed.{All, all, more}
+use Rattle.tag.proofs.Formed.{all-map}
 use Rattle.survey.proofs.Fields.{span-ends, not-stops}
-use Rattle.read.proofs.Inside.{all-map, F32In, no-numeral, too-long, a-number, f32-wider, f32-in}
+use Rattle.read.proofs.Inside.{F32In, no-numeral, too-long, a-number, f32-wider, f32-in}
 
 -- ---- words
 

@@ -22,7 +22,7 @@ use Rattle.state.specs.declared.RenderState.{RenderState}
 use Rattle.state.specs.State.{resetTo}
 use Rattle.state.specs.Mix.{factor, mixLine, between}
 use Rattle.state.specs.Apply.{resetOf, aligned, wrapped, applyOwn, applyTags}
-use Rattle.reset.proofs.ByKind.{over, everywhere, decode-past}
+use Rattle.tag.proofs.ByKind.{over, everywhere, decode-past}
 use Rattle.evaluators.specs.Inner.{recordFrom, tagsAt}
 use Rattle.evaluators.proofs.Turns.{done-at, plain-at, around-at}
 use Rattle.reset.specs.Reset.{Leaves}

@@ -95,11 +95,11 @@ unfolding decodeIn
 decode-none zero = refl
 decode-none (suc n) = refl
 
-decode-single : (n : ℕ) (r : Record) (l : List Record) → (r .kind ≡ tKind → ⊥) → decodeIn (suc n) (r ∷ l) ≡ and (decodeOne r) (decodeIn n l)
+pub decode-single : (n : ℕ) (r : Record) (l : List Record) → (r .kind ≡ tKind → ⊥) → decodeIn (suc n) (r ∷ l) ≡ and (decodeOne r) (decodeIn n l)
 unfolding decodeIn
 decode-single n r l h = rw (ne-eqb (r .kind) tKind h)
 
-decode-nest : (n : ℕ) (r : Record) (l : List Record) → r .kind ≡ tKind → decodeIn (suc n) (r ∷ l) ≡ and (decodeT r (decodeIn n (take (holds r) l))) (decodeIn n (drop (holds r) l))
+pub decode-nest : (n : ℕ) (r : Record) (l : List Record) → r .kind ≡ tKind → decodeIn (suc n) (r ∷ l) ≡ and (decodeT r (decodeIn n (take (holds r) l))) (decodeIn n (drop (holds r) l))
 unfolding decodeIn
 decode-nest n r l h = rw (eq-eqb (r .kind) tKind h)
 

@@ -27,6 +27,10 @@ pub all-append : {A : Type 0} {P : A → Type 0} {a b : List A} → All P a → 
 all-append all k = k
 all-append (more h l) k = more h (all-append l k)
 
+pub all-map : {A : Type 0} {P Q : A → Type 0} → ((x : A) → P x → Q x) → {l : List A} → All P l → All Q l
+all-map f all = all
+all-map f (more {x = x} h l) = more (f x h) (all-map f l)
+
 pub all-take : {A : Type 0} {P : A → Type 0} (n : ℕ) {l : List A} → All P l → All P (take n l)
 all-take zero h = all
 all-take (suc n) all = all

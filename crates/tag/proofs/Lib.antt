@@ -3,3 +3,4 @@ pub mod Tags
 pub mod Formed
 pub mod Decoding
 pub mod Deeper
+pub mod ByKind
