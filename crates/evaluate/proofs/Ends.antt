@@ -24,7 +24,8 @@ use Rattle.words.specs.Words.{stateWords}
 use Rattle.evaluate.specs.declared.Evaluated.{Evaluated}
 use Rattle.evaluators.specs.Inner.{tagsAt, told, wordsIf}
 use Rattle.evaluate.specs.Inner.{isGood, AppliedAll}
-use Rattle.evaluate.specs.Evaluate.{evaluatedOr, evaluatedTo, evaluated, groundOf, stateOf, StateStands, stateAfter, InWords}
+use Rattle.evaluate.specs.Evaluate.{evaluatedOr, evaluatedTo, evaluated, groundOf, stateOf, StateStands, opacityOf, Opacity, stateAfter, InWords}
+use Rattle.evaluate.proofs.Opacity.{opaque}
 
 module _ {t dur : ℤ} {ws : List ℕ} {write : Bool} {v u : List ℕ} {r : RenderState} {x : ℕ} (a : AppliedAll t dur ws write v r x u) where
   -- a record is at fault
@@ -67,9 +68,9 @@ stands : (c : Checked) (st : RenderState) → Stands c identity st (groundOf (ev
 stands Good st = record { ground = refl; value = refl }
 stands (Bad r) st = record { ground = refl; value = refl }
 
-pub told-by-value : (ws : List ℕ) (t dur : ℤ) {r : Evaluated} → r ≡ evaluated ws t dur → (r ≡ evaluated ws t dur) × StateStands ws t dur r
+pub told-by-value : (ws : List ℕ) (t dur : ℤ) {r : Evaluated} → r ≡ evaluated ws t dur → (r ≡ evaluated ws t dur) × (StateStands ws t dur r × Opacity ws (opacityOf r))
 unfolding evaluatedTo
-told-by-value ws t dur e = (e, rw e (stands (callGround ws t dur) (evaluateAt t dur (tagsOf ws))))
+told-by-value ws t dur e = (e, (rw e (stands (callGround ws t dur) (evaluateAt t dur (tagsOf ws))), rw e (opaque ws t dur)))
 
 -- ---- as words
 

@@ -1,2 +1,3 @@
+pub mod Opacity
 pub mod Ends
 pub mod Depth

@@ -1,7 +1,7 @@
 // The state of a table's tags at an instant: `evaluate_at` of the Rust, by value and as the 92 words of the C interface.
 ghost use mathlib.Core.Path.{_≡_};
 ghost use Rattle.evaluate.specs.Inner.{isGood, AppliedAll};
-ghost use Rattle.evaluate.specs.Evaluate.{evaluated, StateStands, InWords};
+ghost use Rattle.evaluate.specs.Evaluate.{evaluated, StateStands, opacityOf, Opacity, InWords};
 use refusal::Checked;
 use refusal::Refusal;
 use state::RenderState;
@@ -45,6 +45,7 @@ fn apply_all(
 pub fn evaluate_at(table: &[u32], t: i32, dur: i32) -> Evaluated
     ensures { λ r. ⌜ r ≡ evaluated (now (table .entry)) t dur ⌝ }
     ensures { λ r. ⌜ StateStands (now (table .entry)) t dur r ⌝ }
+    ensures { λ r. ⌜ Opacity (now (table .entry)) (opacityOf r) ⌝ }
 {
     let mut fault: usize = 0;
     let mut unwritten = [0; 92];

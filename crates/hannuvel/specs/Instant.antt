@@ -3,12 +3,13 @@ use mathlib.Core.Path.{_≡_}
 use mathlib.Core.List.{List}
 use Prim.Native.Nat.{ℕ}
 use lib.IntN.{ℤ}
+use lib.ListN.{getD}
 use Rattle.float.specs.Float.{toWord, ofWord}
 use Rattle.tag.specs.Decode.{tagsOf}
 use Rattle.tag.specs.Depth.{AtLessDepth}
 use Rattle.table.specs.Ground.{Fine}
 use Rattle.evaluate.specs.declared.Evaluated.{Evaluated}
-use Rattle.evaluate.specs.Evaluate.{evaluatedTo, evaluated, groundOf, stateAfter}
+use Rattle.evaluate.specs.Evaluate.{evaluatedTo, evaluated, groundOf, stateAfter, OpacityWord}
 use Rattle.marks.specs.Answer as Marks
 use Rattle.marks.specs.Answer.{markedTo, marked, markOf}
 use Rattle.marks.specs.Marks.{Interval, marks, nextMark, Earliest}
@@ -18,12 +19,13 @@ use Rattle.hannuvel.specs.Packed.{wordValue, Unpacks, Says}
 
 -- ---- `hannuvel_evaluate_at`
 
--- what the call says: the number r, which has no extra and no value, and the lent words v before and u after; and 02, N7, of controllers that
--- allow T nested less deep
+-- what the call says: the number r, which has no extra and no value, and the lent words v before and u after; 02, N7, of controllers that
+-- allow T nested less deep; and 02, N8, of the opacity, word 0
 pub record EvaluatingCall (ws : List ℕ) (t dur : ℤ) (v : List ℕ) (r : ℕ) (u : List ℕ) : Type 0 where
   pub answered : Says r (groundOf (evaluated ws t dur)) 0 0
   pub state : u ≡ stateAfter (evaluated ws t dur) v
   pub stored : AtLessDepth ws (λ k. evaluatedTo k ws t dur) (λ g. Evaluated.Refused g)
+  pub opacity : Fine ws t dur → OpacityWord ws (getD u 0 0)
 
 -- ---- `hannuvel_next_mark`
 
