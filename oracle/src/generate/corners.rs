@@ -121,6 +121,25 @@ const SHORT_TEXTS: &[&str] = &[
     "",
 ];
 
+/// Lines in which \t blends opacities, up to 1 and down from it; `@` stands for each of FADED.
+const BLENDS: &[&str] = &[
+    "@\\t(0,29,\\r)",
+    "\\t(@)",
+    "@\\t(3,31,0.1,\\t(2,37,3,\\r))",
+    "\\t(0,37,1.1,@\\t(3,\\r\\t(0.7,@)))",
+    "@\\t(0,23,\\r)\\t(1,19,-1,@)\\t(5,17,0.3,\\r@)",
+];
+
+const FADED: &[&str] = &[
+    "\\fad(7,5)",
+    "\\fad(31,29)",
+    "\\fad(0,16777213)",
+    "\\fad(2147483647,0)",
+    "\\fade(255,0,254,3,11,19,41)",
+    "\\fade(1,254,0,-7,13,13,29)",
+    "\\fad(13,11)\\fade(128,1,127,2,5,23,47)",
+];
+
 pub fn texts() -> impl Iterator<Item = Vec<u8>> {
     TEXTS.iter().map(filled)
 }
@@ -132,6 +151,11 @@ pub fn corner(random: &mut Random) -> Vec<u8> {
 
 pub fn short_texts() -> impl Iterator<Item = Vec<u8>> {
     SHORT_TEXTS.iter().map(filled)
+}
+
+pub fn blends() -> impl Iterator<Item = Vec<u8>> {
+    let pairs = BLENDS.iter().flat_map(|text| FADED.iter().map(move |fade| (text, fade)));
+    pairs.map(|(text, fade)| text.replace('@', fade).into_bytes())
 }
 
 fn filled(text: &&str) -> Vec<u8> {
@@ -198,8 +222,8 @@ mod tests {
 
     #[test]
     fn every_tag_of_the_lines_is_kept() {
-        for text in TEXTS.iter().chain(SHORT_TEXTS) {
-            let text = String::from_utf8(filled(text)).unwrap();
+        for text in texts().chain(short_texts()).chain(blends()) {
+            let text = String::from_utf8(text).unwrap();
             let count = text.matches('\\').count();
             assert_eq!(tags_in(&read(&text)), count, "{text}");
         }
@@ -226,6 +250,33 @@ mod tests {
             assert_eq!(state.reset_to_style, None);
             assert_eq!(format!("{state:?}").matches("None").count(), 1);
         }
+    }
+
+    /// Behind its first line's \t, at the share 1, an opacity goes to 1 by a sum that is above it
+    /// before it is rounded.
+    #[test]
+    fn blends_meet_both_ends_and_pass_1_before_rounding() {
+        let opacity = |text: &str, t| CueAnimation { tags: read(text) }.evaluate_at(t, 61).alpha_mul;
+        let (mut ends, mut between, mut above) = ([0, 0], 0, 0);
+        for text in blends() {
+            let text = String::from_utf8(text).unwrap();
+            for t in 0..61 {
+                match opacity(&text, t) {
+                    0.0 => ends[0] += 1,
+                    1.0 => ends[1] += 1,
+                    _ => between += 1,
+                }
+            }
+        }
+        for fade in FADED {
+            for t in 29..61 {
+                let start = opacity(fade, t);
+                above += i32::from(f64::from(start) + f64::from(1.0 - start) > 1.0);
+                let text = format!("{fade}\\t(0,29,\\r)");
+                assert_eq!(opacity(&text, t), start + (1.0 - start));
+            }
+        }
+        assert!(ends[0] > 10 && ends[1] > 100 && between > 1_000 && above > 10, "{ends:?} {between} {above}");
     }
 
     #[test]

@@ -5,6 +5,7 @@ pub mod block;
 pub mod drawing;
 pub mod marks;
 pub mod numeral;
+pub mod opacity;
 pub mod refusal;
 pub mod table;
 pub mod walk;

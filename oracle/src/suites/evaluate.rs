@@ -9,6 +9,7 @@ use crate::generate::table::instant;
 use crate::library::hannuvel_evaluate_at;
 use crate::random::Random;
 use crate::rule::marks::around;
+use crate::rule::opacity::evaluated;
 use crate::rule::refusal;
 use crate::sample::{Sampled, line, short_sample};
 use crate::shrink::Cases;
@@ -47,7 +48,7 @@ impl Case {
 
     /// The state of the Rust, with strings spelled by their parts.
     pub fn state(&self) -> RenderState {
-        let state = self.source.cue().evaluate_at(self.t, self.duration);
+        let state = evaluated(&self.source.cue(), self.t, self.duration);
         self.check_names(&state);
         state
     }
@@ -57,7 +58,7 @@ impl Case {
         let (Some(tags), Some(text)) = (self.source.rust_tags(), &self.source.text) else {
             return;
         };
-        let own = CueAnimation { tags }.evaluate_at(self.t, self.duration);
+        let own = evaluated(&CueAnimation { tags }, self.t, self.duration);
         let named = with_named_bytes(state, text);
         // The debug form tells -0 from 0 and takes all NaNs as one.
         let same = format!("{own:?}") == format!("{named:?}");

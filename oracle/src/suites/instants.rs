@@ -2,7 +2,7 @@
 
 use super::evaluate::Case;
 use super::source::Source;
-use crate::generate::corners::{DURATIONS, accelerated, fades, fads, short_texts, texts};
+use crate::generate::corners::{DURATIONS, accelerated, blends, fades, fads, short_texts, texts};
 use crate::generate::limits::{faulty_records, faulty_tables, good_tables};
 use crate::rule::marks::around;
 use crate::rule::refusal::FARTHEST;
@@ -25,6 +25,7 @@ const INSTANTS: [i32; 9] = [
 pub fn cases() -> impl Iterator<Item = Case> {
     lines()
         .chain(single_tags())
+        .chain(opacities())
         .chain(accelerations())
         .chain(limits())
         .chain(faults())
@@ -32,15 +33,22 @@ pub fn cases() -> impl Iterator<Item = Case> {
 
 /// Short lines at every millisecond, from before their start to behind their last mark.
 pub fn walked() -> impl Iterator<Item = Case> {
-    short_texts().flat_map(|text| {
-        let source = Source::of_text(text).expect("the texts of lines are read");
-        [-3, 0, 1, 2, 40, 60].into_iter().flat_map(move |duration| {
-            let source = source.clone();
-            (-6..80).map(move |t| Case {
-                source: source.clone(),
-                t,
-                duration,
-            })
+    short_texts().flat_map(|text| at_every_millisecond(text, &[-3, 0, 1, 2, 40, 60]))
+}
+
+/// Opacities that \t blends, at every millisecond.
+fn opacities() -> impl Iterator<Item = Case> {
+    blends().flat_map(|text| at_every_millisecond(text, &[40, 61]))
+}
+
+fn at_every_millisecond(text: Vec<u8>, durations: &[i32]) -> impl Iterator<Item = Case> {
+    let source = Source::of_text(text).expect("the texts of lines are read");
+    durations.iter().flat_map(move |&duration| {
+        let source = source.clone();
+        (-6..80).map(move |t| Case {
+            source: source.clone(),
+            t,
+            duration,
         })
     })
 }
