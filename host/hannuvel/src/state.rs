@@ -6,7 +6,8 @@ use crate::{FontName, Part, STATE_WORDS};
 /// transform. A field that is `None` is left to the line's style.
 #[derive(Clone, Copy, Debug, PartialEq)]
 pub struct RenderState<'t> {
-    /// How opaque \fad and \fade leave the line: 1.0 opaque, 0.0 transparent.
+    /// How opaque \fad and \fade leave the line: 1.0 opaque, 0.0 transparent. It is 0.0 to 1.0, no NaN, whatever the tags, and
+    /// exactly 1.0 where neither stands at any depth of \t.
     pub alpha_mul: f32,
     /// \frz.
     pub rotate_radians: f32,

@@ -53,6 +53,23 @@ fn a_fade() {
 }
 
 #[test]
+fn an_opacity_is_from_0_to_1_and_1_without_a_fade() {
+    let at_each = |text: &str| {
+        block(text, |tags| (-5..70).map(|t| tags.evaluate_at(t, 50).unwrap().alpha_mul).collect::<Vec<_>>())
+    };
+    let fades = [r"\fad(7,5)", r"\fade(1,254,0,-7,13,13,29)", r"\fad(2147483647,0)"];
+    let frames = [r"@\t(0,29,\r)", r"\t(0,37,1.1,@\t(3,\r\t(0.7,@)))", r"@\t(1,19,-1,@)\t(5,17,0.3,\r@)"];
+    for text in frames.iter().flat_map(|frame| fades.map(|fade| frame.replace('@', fade))) {
+        let opacities = at_each(&text);
+        assert!(opacities.iter().all(|x| x.to_bits() <= 1f32.to_bits()), "{text}: {opacities:?}");
+        assert!(opacities.iter().any(|&x| x < 1.0), "{text}: {opacities:?}");
+    }
+    for text in ["", r"\alpha&HFF&\t(0,29,\r\t(2,\1a&H80&\fs9))\k5"] {
+        assert!(at_each(text).iter().all(|x| x.to_bits() == 0x3F80_0000), "{text}");
+    }
+}
+
+#[test]
 fn colours_and_alphas() {
     let state = |text| block(text, |tags| tags.evaluate_at(0, 0).unwrap().primary_color);
     assert_eq!(state(r"\1c&H0000FF&"), Some((255, 0, 0)));
