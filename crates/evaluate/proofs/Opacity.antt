@@ -1,11 +1,11 @@
 -- 02, N8: opacity stays within 0 to 1, through any nesting and any acceleration, and is 1 where no \fad or \fade stands.
 use mathlib.Core.Path.{_≡_, refl, ap, _∙_}
-use mathlib.Core.Bool.{Bool, true, false, cond, true≢false}
+use mathlib.Core.Bool.{Bool, true, false, cond}
 use mathlib.Core.List.{List, [], _∷_}
 use Prim.Native.Nat.{ℕ, zero, suc, _+_, _-_, _^_, _≤_, _<_}
 use native.Mathlib.Nat.{min-le-right}
 use native.Mathlib.Omega.{arith}
-use lib.Dec.{eqb, leb, ltb}
+use lib.Dec.{lit≤, eqb, leb, ltb}
 use lib.IntN.{ℤ, pos, negsuc, _-ℤ_, natAbs}
 use lib.Signed.{leZ, ltZ}
 use lib.ListN.{length, getD, take, drop}
@@ -33,7 +33,8 @@ use Rattle.state.specs.declared.RenderState.{RenderState}
 use Rattle.state.specs.State.{identity}
 use Rattle.state.specs.Mix.{quotient, advance, startOf, endOf, accelOf, bent, held, factor, lerpBytes, cutBetween, between, mixAlways}
 use Rattle.state.specs.Apply.{fromZero, fadeIn, fadeOut, fadAlpha, byte, fadeAlpha, alphaToMul, faded, applyOwn, applyTags, evaluateAt}
-use Rattle.ramp.proofs.Ints.{dist, dist-is, not-le}
+use Rattle.ramp.proofs.Ints.{dist}
+use Rattle.ramp.proofs.Between.{unit-between}
 use Rattle.evaluators.proofs.Turns.{apply-none, apply-own, apply-around}
 use Rattle.words.specs.Words.{stateWords}
 use Rattle.evaluate.specs.declared.Evaluated.{Evaluated}
@@ -100,50 +101,29 @@ unit-fade a1 a2 a3 t1 t2 t3 t4 t = unit-alpha _ (fade-byte (byte a1) (byte a2) (
 
 -- ---- how far a \t has come
 
--- a start that a word can say
-abbrev Early : ℤ → Type 0
-Early (pos n) = Unit one
-Early (negsuc n) = n < 2 ^ 31
-
-early-word : (w : ℕ) → Early (ofWord w)
+-- a start is no further off than a word can say
+start-size : (flag a b : ℕ) → natAbs (startOf (timesOf flag a b)) ≤ 2 ^ 31
 unfolding ofWord
-early-word w = go (ltb w (2 ^ 31)) refl
+start-size flag a b = picked (λ (x : Times). natAbs (startOf x) ≤ 2 ^ 31) (eqb flag 0) absent (times (z a) (z b)) (lit≤ tt) (go (ltb a (2 ^ 31)) refl)
   where
-    go : (b : Bool) → ltb w (2 ^ 31) ≡ b → Early (cond b (pos w) (negsuc (2 ^ 32 - suc w)))
-    go true e = unit-one
-    go false e = let h = ltb-false w (2 ^ 31) e in omega arith
+    go : (c : Bool) → ltb a (2 ^ 31) ≡ c → natAbs (cond c (pos a) (negsuc (2 ^ 32 - suc a))) ≤ 2 ^ 31
+    go true e = let h = ltb-true a (2 ^ 31) e in omega arith
+    go false e = let h = ltb-false a (2 ^ 31) e in omega arith
 
-early-start : (flag a b : ℕ) → Early (startOf (timesOf flag a b))
-early-start flag a b = picked (λ (x : Times). Early (startOf x)) (eqb flag 0) absent (times (z a) (z b)) unit-one (early-word a)
-
--- the way from the start to t is a part of that to the end
-way : (a t b : ℤ) → leZ t a ≡ false → leZ b t ≡ false → (dist a t ≤ dist a b) × (0 < dist a b)
-way (pos a) (pos t) (pos b) h k = let x = leb-false t a h in let y = leb-false b t k in (omega arith, omega arith)
-way (pos a) (pos t) (negsuc b) h k = absurd (true≢false k)
-way (pos a) (negsuc t) b h k = absurd (true≢false h)
-way (negsuc a) (pos t) (pos b) h k = let y = leb-false b t k in (omega arith, omega arith)
-way (negsuc a) (pos t) (negsuc b) h k = absurd (true≢false k)
-way (negsuc a) (negsuc t) (pos b) h k = let x = leb-false a t h in (omega arith, omega arith)
-way (negsuc a) (negsuc t) (negsuc b) h k = let x = leb-false a t h in let y = leb-false t b k in (omega arith, omega arith)
-
-near : (a t : ℤ) → Early a → natAbs t ≤ reach → dist a t ≤ 2 ^ 64
+near : (a t : ℤ) → natAbs a ≤ 2 ^ 31 → natAbs t ≤ reach → dist a t ≤ 2 ^ 64
 near (pos a) (pos t) e h = omega arith
 near (pos a) (negsuc t) e h = omega arith
 near (negsuc a) (pos t) e h = omega arith
 near (negsuc a) (negsuc t) e h = omega arith
 
-unit-advance : (start end t : ℤ) → Early start → natAbs t ≤ reach → Unit (advance start end t)
-unfolding advance quotient
-unit-advance start end t e h = go (leZ end start) (leZ end t) (leZ t start) refl refl refl
+unit-advance : (start end t : ℤ) → natAbs start ≤ 2 ^ 31 → natAbs t ≤ reach → Unit (advance start end t)
+unfolding advance
+unit-advance start end t e h = go (leZ end t) (leZ t start) refl refl
   where
-    go : (a b c : Bool) → leZ end start ≡ a → leZ end t ≡ b → leZ t start ≡ c → Unit (pick a (pick b one +0) (pick c +0 (pick b one (quotient (t -ℤ start) (end -ℤ start)))))
-    go true true c p q r = unit-one
-    go true false c p q r = unit-zero
-    go false b true p q r = unit-zero
-    go false true false p q r = unit-one
-    go false false false p q r =
-        let w = way start t end r q in
-        rw (dist-is start t (not-le t start r), dist-is start end (not-le end start p)) (unit-quotient (dist start t) (dist start end) (w .1) (w .0) (near start t e h))
+    go : (a b : Bool) → leZ end t ≡ a → leZ t start ≡ b → Unit (pick (leZ end start) (pick a one +0) (pick b +0 (pick a one (quotient (t -ℤ start) (end -ℤ start)))))
+    go true b p q = picked Unit (leZ end start) one _ unit-one (picked Unit b +0 one unit-zero unit-one)
+    go false true p q = picked Unit (leZ end start) +0 +0 unit-zero unit-zero
+    go false false p q = picked Unit (leZ end start) +0 _ unit-zero (unit-between start t end q p (near start t e h))
 
 held-share : (raw k : Float) → Unit raw → Share (held raw k)
 unfolding held
@@ -156,7 +136,7 @@ unfolding factor
 share-factor flag a b accel t dur h =
     let x = timesOf flag a b in
     let raw = advance (startOf x) (endOf x dur) t in
-    held-share raw (bent raw (accelOf accel)) (unit-advance (startOf x) (endOf x dur) t (early-start flag a b) h)
+    held-share raw (bent raw (accelOf accel)) (unit-advance (startOf x) (endOf x dur) t (start-size flag a b) h)
 
 opacity-between : (k : Float) (a b : RenderState) → opacity (between k a b) ≡ lerp (opacity a) (opacity b) k
 unfolding between mixAlways

@@ -1,23 +1,21 @@
 -- 01, Karaoke: progress is 0 up to the start, and within 0 to 1 always. (1 from the end on: Passing.antt.)
 use mathlib.Core.Path.{_≡_, refl}
-use mathlib.Core.Bool.{true, false}
-use mathlib.Core.Logic.{⊎-elim}
-use Prim.Native.Nat.{ℕ, _-_, _≤_, _<_}
+use mathlib.Core.Bool.{Bool, true, false}
+use Prim.Native.Nat.{ℕ, _≤_}
 use native.Mathlib.Omega.{arith}
 use lib.Dec.{T}
-use lib.IntN.{ℤ, pos, negsuc, _-ℤ_}
+use lib.IntN.{ℤ, pos, _-ℤ_}
 use lib.Signed.{leZ}
 use lib.Ieee.{binary32, fits, ofInt}
 use lib.Ieee.Fits.{div-fits}
-use borrow.Author.Tests.{le-leb, lt-leb}
-use Rattle.scan.specs.Scan.{either}
-use Rattle.scan.proofs.Laws.{le-or-lt, picked}
+use Rattle.scan.specs.Scan.{pick, either}
+use Rattle.scan.proofs.Laws.{picked}
 use Rattle.float.specs.Float.{zero, one, InUnit}
-use Rattle.float.proofs.Unit.{Unit, unit-zero, unit-one, unit-quotient, in-unit}
+use Rattle.float.proofs.Unit.{Unit, unit-zero, unit-one, in-unit}
 use Rattle.refusal.specs.declared.Checked.{Checked}
 use Rattle.refusal.specs.declared.Checked.the-variants.{Good, Bad}
 use Rattle.state.specs.Mix.{quotient}
-use Rattle.ramp.proofs.Ints.{dist-is}
+use Rattle.ramp.proofs.Between.{way, unit-between}
 use Rattle.karaoke.specs.declared.KaraokeSpan.{KaraokeSpan}
 use Rattle.karaoke.specs.Karaoke.{mostMs}
 use Rattle.karaoke.specs.Progress.{whole, progressIn, instantGround, progressedOr, progressed, progressOf}
@@ -27,31 +25,15 @@ pub up-to-start : (start end t : ℤ) → leZ t start ≡ true → progressIn st
 unfolding progressIn
 up-to-start start end t h = rw h
 
-module _ (start end : ℕ) (m : end ≤ mostMs) where
-  -- at an instant from 0 on
-  unit-at : (n : ℕ) → Unit (progressIn (pos start) (pos end) (pos n))
-  unfolding progressIn quotient
-  unit-at n =
-      ⊎-elim
-      (λ (h : n ≤ start). rw (le-leb n start h) unit-zero)
-      (λ (h : start < n).
-      ⊎-elim
-      (λ (g : end ≤ n). rw (lt-leb n start h, le-leb end n g) unit-one)
-      (λ (g : n < end).
-      rw (
-        lt-leb n start h,
-        lt-leb end n g,
-        lt-leb end start (omega arith),
-        dist-is (pos start) (pos n) (le-leb start n (omega arith)),
-        dist-is (pos start) (pos end) (le-leb start end (omega arith)),
-      )
-      (unit-quotient (n - start) (end - start) (omega arith) (omega arith) (omega arith)))
-      (le-or-lt end n))
-      (le-or-lt n start)
-
-  unit-in : (t : ℤ) → Unit (progressIn (pos start) (pos end) t)
-  unit-in (pos n) = unit-at n
-  unit-in (negsuc n) = rw (up-to-start (pos start) (pos end) (negsuc n) refl) unit-zero
+-- and from there on
+unit-in : (start end : ℕ) (t : ℤ) → end ≤ mostMs → Unit (progressIn (pos start) (pos end) t)
+unfolding progressIn
+unit-in start end t m = go (leZ t (pos start)) (leZ (pos end) t) refl refl
+  where
+    go : (a b : Bool) → leZ t (pos start) ≡ a → leZ (pos end) t ≡ b → Unit (pick a zero (pick (either b (leZ (pos end) (pos start))) one (quotient (t -ℤ pos start) (pos end -ℤ pos start))))
+    go true b p q = unit-zero
+    go false true p q = unit-one
+    go false false p q = let w = way (pos start) t (pos end) p q in picked Unit (leZ (pos end) (pos start)) one _ unit-one (unit-between (pos start) t (pos end) p q (omega (arith, w .0)))
 
 -- whatever the span and the instant, beside a refusal too
 pub progress-in-unit : (s : KaraokeSpan) (t : ℤ) → s .«end_ms» .0 ≤ mostMs → InUnit (progressOf (progressed s t))
@@ -59,7 +41,7 @@ unfolding progressed
 progress-in-unit s t m = go (instantGround t)
   where
     go : (c : Checked) → InUnit (progressOf (progressedOr c (progressIn (whole (s .«start_ms»)) (whole (s .«end_ms»)) t)))
-    go Good = in-unit _ (unit-in (s .«start_ms» .0) (s .«end_ms» .0) m t)
+    go Good = in-unit _ (unit-in (s .«start_ms» .0) (s .«end_ms» .0) t m)
     go (Bad r) = in-unit zero unit-zero
 
 -- ---- and an f32

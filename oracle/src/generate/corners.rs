@@ -154,7 +154,9 @@ pub fn short_texts() -> impl Iterator<Item = Vec<u8>> {
 }
 
 pub fn blends() -> impl Iterator<Item = Vec<u8>> {
-    let pairs = BLENDS.iter().flat_map(|text| FADED.iter().map(move |fade| (text, fade)));
+    let pairs = BLENDS
+        .iter()
+        .flat_map(|text| FADED.iter().map(move |fade| (text, fade)));
     pairs.map(|(text, fade)| text.replace('@', fade).into_bytes())
 }
 
@@ -256,7 +258,11 @@ mod tests {
     /// before it is rounded.
     #[test]
     fn blends_meet_both_ends_and_pass_1_before_rounding() {
-        let opacity = |text: &str, t| CueAnimation { tags: read(text) }.evaluate_at(t, 61).alpha_mul;
+        let opacity = |text: &str, t| {
+            CueAnimation { tags: read(text) }
+                .evaluate_at(t, 61)
+                .alpha_mul
+        };
         let (mut ends, mut between, mut above) = ([0, 0], 0, 0);
         for text in blends() {
             let text = String::from_utf8(text).unwrap();
@@ -276,7 +282,10 @@ mod tests {
                 assert_eq!(opacity(&text, t), start + (1.0 - start));
             }
         }
-        assert!(ends[0] > 10 && ends[1] > 100 && between > 1_000 && above > 10, "{ends:?} {between} {above}");
+        assert!(
+            ends[0] > 10 && ends[1] > 100 && between > 1_000 && above > 10,
+            "{ends:?} {between} {above}"
+        );
     }
 
     #[test]

@@ -54,8 +54,20 @@ mod tests {
         let next = |x: f32| f32::from_bits(x.to_bits() + 1);
         for text in texts {
             let tags = read(text);
-            assert!([0.0, f32::MIN_POSITIVE, 0.5, 1.0].iter().all(|&x| holds(&tags, x)), "{text}");
-            let beyond = [next(1.0), 2.0, -f32::MIN_POSITIVE, -0.0, f32::NAN, f32::INFINITY];
+            assert!(
+                [0.0, f32::MIN_POSITIVE, 0.5, 1.0]
+                    .iter()
+                    .all(|&x| holds(&tags, x)),
+                "{text}"
+            );
+            let beyond = [
+                next(1.0),
+                2.0,
+                -f32::MIN_POSITIVE,
+                -0.0,
+                f32::NAN,
+                f32::INFINITY,
+            ];
             assert!(beyond.iter().all(|&x| !holds(&tags, x)), "{text}");
         }
     }
@@ -65,6 +77,10 @@ mod tests {
         let tags = read("\\alpha&HFF&\\t(0,9,\\r\\t(\\1a&H80&))\\k20");
         assert!(holds(&tags, 1.0));
         let below = f32::from_bits(1f32.to_bits() - 1);
-        assert!([0.0, 0.5, below, f32::NAN].iter().all(|&x| !holds(&tags, x)));
+        assert!(
+            [0.0, 0.5, below, f32::NAN]
+                .iter()
+                .all(|&x| !holds(&tags, x))
+        );
     }
 }
