@@ -2,17 +2,17 @@
 use mathlib.Core.Path.{_≡_, refl, ap, _∙_}
 use mathlib.Core.Bool.{Bool, true, false, cond}
 use mathlib.Core.List.{List, [], _∷_}
-use Prim.Native.Nat.{ℕ, zero, suc, _+_, _-_, _^_, _≤_, _<_}
+use Prim.Native.Nat.{ℕ, zero, suc, _+_, _-_, _^_, _≤_}
 use native.Mathlib.Nat.{min-le-right}
 use native.Mathlib.Omega.{arith}
 use lib.Dec.{lit≤, eqb, leb, ltb}
 use lib.IntN.{ℤ, pos, negsuc, _-ℤ_, natAbs}
 use lib.Signed.{leZ, ltZ}
 use lib.ListN.{length, getD, take, drop}
-use lib.Ieee.{Float, nan, inf, fin, binary32, mul, ofBits, toBits}
+use lib.Ieee.{Float, nan, inf, fin, binary32, mul, toBits}
 use lib.Ieee.Bits.{ofBits-toBits}
 use lib.Ieee.Casts.{toUnsigned-lt}
-use borrow.Author.Tests.{ltb-true, ltb-false, leb-false, eqb-true, eqb-false, eq-eqb, ne-eqb}
+use borrow.Author.Tests.{ltb-true, ltb-false, leb-false, eqb-true, eqb-false, ne-eqb}
 use Rattle.scan.specs.Scan.{pick}
 use Rattle.scan.proofs.Laws.{picked}
 use Rattle.float.specs.Float.{zero as +0, one, reach, clamp, lerp, ofWord}
@@ -37,7 +37,6 @@ use Rattle.ramp.proofs.Ints.{dist}
 use Rattle.ramp.proofs.Between.{unit-between}
 use Rattle.evaluators.proofs.Turns.{apply-none, apply-own, apply-around}
 use Rattle.words.specs.Words.{stateWords}
-use Rattle.evaluate.specs.declared.Evaluated.{Evaluated}
 use Rattle.evaluate.specs.Evaluate.{evaluatedOr, evaluatedTo, evaluated, opacityOf, NoFade, NoFades, Opacity, stateAfter, OpacityWord}
 
 -- the opacity of a state

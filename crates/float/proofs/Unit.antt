@@ -2,76 +2,35 @@
 -- smallest f32, 2 ^ -149.
 use mathlib.Core.Path.{_≡_, refl, sym, ap, _∙_, subst}
 use mathlib.Core.Logic.{_⊎_, inl, inr, ⊎-elim}
-use Prim.Native.Nat.{ℕ, zero, suc, _+_, _-_, _*_, _/_, _%_, _^_, _≤_, _<_, zero-le}
+use Prim.Native.Nat.{ℕ, zero, suc, _+_, _-_, _*_, _/_, _^_, _≤_, _<_, zero-le}
 use native.Mathlib.Nat.{le-trans, le-of-eq, le-refl, lt-of-le-of-lt, eq-or-lt-of-le, zero-mul, mul-zero, mul-one, one-mul, mul-pos, mul-comm, mul-assoc, mul-right-comm, mul-le-mul-right, mul-le-mul-left, mul-sub, le-of-mul-le-mul-right, add-mul, mul-mul-mul-comm, mul-le-mul, mul-lt-mul-of-pos-right, lt-of-mul-lt-mul-right, lt-of-lt-of-le, not-le-of-lt, div-mul-le-self, div-lt-iff-lt-mul, le-of-lt, add-le-add, sub-le, zero-lt-suc, le-add-right}
 use native.Mathlib.Decide.{decLe}
 use native.Mathlib.Omega.{arith}
-use mathlib.Core.Bool.{Bool, true, false, not, cond, _&&_, true≢false, false≢true}
-use lib.IntN.{ℤ, pos, negsuc}
-use lib.Dec.{T, lit<, lit≤, ltb, leb, eqb, leb→le, ltb→lt}
-use borrow.Author.Tests.{lt-ltb, le-ltb, ltb-false, ne-eqb}
-use lib.Pow.{pow-add, pow-pos}
+use mathlib.Core.Bool.{Bool, true, false, not, cond, _&&_, true≢false}
+use lib.IntN.{ℤ, pos}
+use lib.Dec.{T, lit<, lit≤, eqb, ltb}
+use borrow.Author.Tests.{lt-ltb, le-ltb, ltb-true, ltb-false, ne-eqb}
+use lib.Pow.{pow-pos}
 use lib.Ieee.{Float, nan, inf, fin, binary32, up, down, unlike, round, neg, sum, add, sub, mul, div, le, lt, fits, ofInt, size, toBits}
-use lib.Ieee.Fits.{and-l, and-r, up-pos, down-pos, round-fits, kept-lt}
+use lib.Ieee.Fits.{up-pos, down-pos, round-fits, kept-lt}
 use lib.Ieee.Digits.{size-le}
 use lib.Ieee.Exact.{HasValue, round-exact}
 use lib.Ieee.Order.{round-mono, transfer, le-of-values}
 use lib.Ieee.Scale.{round-same}
-use Rattle.decimal.proofs.Law.{neg-round, pow-back, round-zero, toBits-of}
+use Rattle.decimal.proofs.Law.{neg-round, round-zero, toBits-of}
 use Rattle.float.specs.Float.{zero as +0, one, clamp, lerp, InUnit}
 use Rattle.float.proofs.Reach.{unsigned, round-up, or-le}
-
--- ---- sizes in units of the smallest f32
-
--- m * 2 ^ j units, with m below 2 ^ 24: an f32 has no other sizes
-abbrev Grid : ℕ → Type 0
-Grid b = (m : ℕ) × (j : ℕ) × (m < 2 ^ 24) × (b ≡ m * 2 ^ j)
+use Rattle.float.proofs.Units.{Grid, own-units, on-grid}
 
 -- an f32 from 0 to 1, not minus zero, with its size in units
 pub record Unit (x : Float) : Type 0 where
   pub size : ℕ
   pub value : HasValue x false size (2 ^ 149)
   pub high : size ≤ 2 ^ 149
-  pub grid : Grid size
   pub f32 : T (fits binary32 x)
 
-parts : (m : ℕ) (e : ℤ) (t : Bool) → T (eqb (suc m % 2) 1 && ltb (suc m) (2 ^ 24) && leb (down e) (2 ^ 149) && t) → (suc m < 2 ^ 24) × (down e ≤ 2 ^ 149)
-parts m e t h =
-    let u = and-l (eqb (suc m % 2) 1 && ltb (suc m) (2 ^ 24) && leb (down e) (2 ^ 149)) t h in (
-      ltb→lt (suc m) (2 ^ 24) (and-r (eqb (suc m % 2) 1) (ltb (suc m) (2 ^ 24)) (and-l (eqb (suc m % 2) 1 && ltb (suc m) (2 ^ 24)) (leb (down e) (2 ^ 149)) u)),
-      leb→le (down e) (2 ^ 149) (and-r (eqb (suc m % 2) 1 && ltb (suc m) (2 ^ 24)) (leb (down e) (2 ^ 149)) u),
-    )
-
-abbrev InUnits : Float → Type 0
-InUnits x = (b : ℕ) × HasValue x false b (2 ^ 149) × Grid b
-
-own-units : (m : ℕ) (e : ℤ) → T (fits binary32 (fin false m e)) → InUnits (fin false m e)
-unfolding fits
-own-units zero e f = (0, (refl, ap (λ (x : ℕ). x * 2 ^ 149) (zero-mul (up e)) ∙ zero-mul (2 ^ 149) ∙ sym (zero-mul (down e))), (0, 0, pow-pos 24, refl))
-own-units (suc m) (pos a) f = (
-  suc m * 2 ^ (a + 149),
-  (refl, mul-assoc (suc m) (2 ^ a) (2 ^ 149) ∙ ap (λ (x : ℕ). suc m * x) (sym (pow-add 2 a 149)) ∙ sym (mul-one (suc m * 2 ^ (a + 149)))),
-  (suc m, a + 149, parts m (pos a) _ f .0, refl),
-)
-own-units (suc m) (negsuc a) f = (
-  suc m * 2 ^ (149 - suc a),
-  (
-    refl,
-    ap (λ (x : ℕ). x * 2 ^ 149) (mul-one (suc m))
-        ∙ ap (λ (x : ℕ). suc m * x) (ap (λ (x : ℕ). 2 ^ x) (split (suc a) low) ∙ pow-add 2 (149 - suc a) (suc a))
-        ∙ sym (mul-assoc (suc m) (2 ^ (149 - suc a)) (2 ^ suc a)),
-  ),
-  (suc m, 149 - suc a, parts m (negsuc a) _ f .0, refl),
-)
-  where
-    low : suc a ≤ 149
-    low = below (suc a) (pow-back (suc a) 150 (lt-of-le-of-lt (parts m (negsuc a) _ f .1) (lit< tt)))
-      where
-        below : (n : ℕ) → n < 150 → n ≤ 149
-        below n h = omega arith
-
-    split : (n : ℕ) → n ≤ 149 → 149 ≡ 149 - n + n
-    split n h = omega arith
+grid : {x : Float} (u : Unit x) → Grid (u .size)
+grid {x} u = on-grid x false (u .size) (u .f32) (u .value)
 
 -- the order of sizes
 sizes : (x y : Float) (a b : ℕ) → HasValue x false a (2 ^ 149) → HasValue y false b (2 ^ 149) → T (le x y) → a ≤ b
@@ -105,11 +64,11 @@ one-value = (refl, refl)
 
 pub unit-zero : Unit +0
 unfolding fits
-unit-zero = record { size = 0; value = (refl, refl); high = lit≤ tt; grid = (0, 0, pow-pos 24, refl); f32 = tt }
+unit-zero = record { size = 0; value = (refl, refl); high = lit≤ tt; f32 = tt }
 
 pub unit-one : Unit one
 unfolding fits
-unit-one = record { size = 2 ^ 149; value = one-value; high = le-refl (2 ^ 149); grid = (1, 149, lit< tt, refl); f32 = tt }
+unit-one = record { size = 2 ^ 149; value = one-value; high = le-refl (2 ^ 149); f32 = tt }
 
 -- what rounds to at most 1
 pub unit-round : (a c : ℕ) → 0 < c → a * 2 ^ 149 ≤ (2 ^ 149 + 2 ^ 125) * c → Unit (round binary32 false a c)
@@ -124,8 +83,8 @@ unit-round a c C h =
     go (inf false) u f l = absurd l
     go (fin true m e) u f l = absurd u
     go (fin false m e) u f l =
-        let o = own-units m e f in
-        record { size = o .0; value = o .1; high = sizes (fin false m e) one (o .0) (2 ^ 149) (o .1) one-value l; grid = o .2; f32 = f }
+        let o = own-units false m e f in
+        record { size = o .0; value = o .1; high = sizes (fin false m e) one (o .0) (2 ^ 149) (o .1) one-value l; f32 = f }
 
 -- a fraction up to 1
 pub unit-fraction : (a c : ℕ) → 0 < c → a ≤ c → Unit (round binary32 false a c)
@@ -170,69 +129,53 @@ step c h u = go (c / 2 ^ 125) (div-lt-iff-lt-mul {x = c} {y = 2 ^ 24} (pow-pos 1
 by-sub : (p q u : ℕ) → (p - q) * u ≡ p * u - q * u
 by-sub p q u = mul-comm (p - q) u ∙ mul-sub u p q ∙ ap (λ (x : ℕ). x - u * q) (mul-comm u p) ∙ ap (λ (x : ℕ). p * u - x) (mul-comm u q)
 
--- two sizes over one denominator
-module _ (X D a Y E b : ℕ) (h : X * 2 ^ 149 ≡ a * D) (k : Y * 2 ^ 149 ≡ b * E) where
-  left : X * E * 2 ^ 149 ≡ a * (D * E)
-  left = mul-right-comm X E (2 ^ 149) ∙ ap (λ (x : ℕ). x * E) h ∙ mul-assoc a D E
+-- fractions A / C and B / C that are a and b units: a sum sees only these
+module _ (A B C a b : ℕ) (C-pos : 0 < C) (h : A * 2 ^ 149 ≡ a * C) (k : B * 2 ^ 149 ≡ b * C) where
+  same-order : ltb A B ≡ ltb a b
+  same-order = go (ltb a b) refl
+    where
+      go : (t : Bool) → ltb a b ≡ t → ltb A B ≡ t
+      go true e = lt-ltb A B (lt-of-mul-lt-mul-right (2 ^ 149) (lt-of-le-of-lt (le-of-eq h) (lt-of-lt-of-le (mul-lt-mul-of-pos-right (ltb-true a b e) C-pos) (le-of-eq (sym k)))))
+      go false e = le-ltb A B (le-of-mul-le-mul-right (le-trans (le-of-eq k) (le-trans (mul-le-mul-right C (ltb-false a b e)) (le-of-eq (sym h)))) (pow-pos 149))
 
-  right : Y * D * 2 ^ 149 ≡ b * (D * E)
-  right = mul-right-comm Y D (2 ^ 149) ∙ ap (λ (x : ℕ). x * D) k ∙ mul-assoc b E D ∙ ap (λ (x : ℕ). b * x) (mul-comm E D)
+  plus : (A + B) * 2 ^ 149 ≡ (a + b) * C
+  plus = add-mul A B (2 ^ 149) ∙ ap (λ (x : ℕ). x + B * 2 ^ 149) h ∙ ap (λ (x : ℕ). a * C + x) k ∙ sym (add-mul a b C)
 
-  plus : (X * E + Y * D) * 2 ^ 149 ≡ (a + b) * (D * E)
-  plus = add-mul (X * E) (Y * D) (2 ^ 149) ∙ ap (λ (x : ℕ). x + Y * D * 2 ^ 149) left ∙ ap (λ (x : ℕ). a * (D * E) + x) right ∙ sym (add-mul a b (D * E))
+  less : (A - B) * 2 ^ 149 ≡ (a - b) * C
+  less = by-sub A B (2 ^ 149) ∙ ap (λ (x : ℕ). x - B * 2 ^ 149) h ∙ ap (λ (x : ℕ). a * C - x) k ∙ sym (by-sub a b C)
 
-  less : (X * E - Y * D) * 2 ^ 149 ≡ (a - b) * (D * E)
-  less = by-sub (X * E) (Y * D) (2 ^ 149) ∙ ap (λ (x : ℕ). x - Y * D * 2 ^ 149) left ∙ ap (λ (x : ℕ). a * (D * E) - x) right ∙ sym (by-sub a b (D * E))
+sum-is : (s t : Bool) (A B C a b : ℕ) → 0 < C → A * 2 ^ 149 ≡ a * C → B * 2 ^ 149 ≡ b * C → sum binary32 s A t B C ≡ sum binary32 s a t b (2 ^ 149)
+unfolding sum
+sum-is s t A B C a b p h k =
+    let one = round-same binary32 s (A + B) C (a + b) (2 ^ 149) p (pow-pos 149) (plus A B C a b p h k) in
+    let two = round-same binary32 t (B - A) C (b - a) (2 ^ 149) p (pow-pos 149) (less B A C b a p k h) in
+    let three : (u : Bool) → round binary32 u (A - B) C ≡ round binary32 u (a - b) (2 ^ 149) = λ u. round-same binary32 u (A - B) C (a - b) (2 ^ 149) p (pow-pos 149) (less A B C a b p h k) in
+    rw (one, two, same-order A B C a b p h k, same-order B A C b a p k h, three (s && ltb b a))
 
-  more : (Y * D - X * E) * 2 ^ 149 ≡ (b - a) * (D * E)
-  more = by-sub (Y * D) (X * E) (2 ^ 149) ∙ ap (λ (x : ℕ). x - X * E * 2 ^ 149) right ∙ ap (λ (x : ℕ). b * (D * E) - x) left ∙ sym (by-sub b a (D * E))
-
-  not-below : b ≤ a → Y * D ≤ X * E
-  not-below l = le-of-mul-le-mul-right (le-trans (le-of-eq right) (le-trans (mul-le-mul-right (D * E) l) (le-of-eq (sym left)))) (pow-pos 149)
-
-  is-below : 0 < D * E → a < b → X * E < Y * D
-  is-below p l = lt-of-mul-lt-mul-right (2 ^ 149) (lt-of-le-of-lt (le-of-eq left) (lt-of-lt-of-le (mul-lt-mul-of-pos-right l p) (le-of-eq (sym right))))
+add-is : (x y : Float) (s t : Bool) (a b : ℕ) → HasValue x s a (2 ^ 149) → HasValue y t b (2 ^ 149) → add binary32 x y ≡ sum binary32 s a t b (2 ^ 149)
+unfolding add
+add-is nan y s t a b h k = absurd h
+add-is (inf u) y s t a b h k = absurd h
+add-is (fin u m e) nan s t a b h k = absurd k
+add-is (fin u m e) (inf v) s t a b h k = absurd k
+add-is (fin u m e) (fin v n d) s t a b h k =
+    rw (h .0, k .0)
+    (sum-is s t (m * up e * down d) (n * up d * down e) (down e * down d) a b (mul-pos (down-pos e) (down-pos d))
+    (mul-right-comm (m * up e) (down d) (2 ^ 149) ∙ ap (λ (x : ℕ). x * down d) (h .1) ∙ mul-assoc a (down e) (down d))
+    (mul-right-comm (n * up d) (down e) (2 ^ 149) ∙ ap (λ (x : ℕ). x * down e) (k .1) ∙ mul-assoc b (down d) (down e) ∙ ap (λ (x : ℕ). b * x) (mul-comm (down d) (down e))))
 
 add-up : (x y : Float) (a b : ℕ) → HasValue x false a (2 ^ 149) → HasValue y false b (2 ^ 149) → add binary32 x y ≡ round binary32 false (a + b) (2 ^ 149)
-unfolding add sum
-add-up nan y a b h k = absurd h
-add-up (inf s) y a b h k = absurd h
-add-up (fin true m e) y a b h k = absurd (true≢false (h .0))
-add-up (fin false m e) nan a b h k = absurd k
-add-up (fin false m e) (inf t) a b h k = absurd k
-add-up (fin false m e) (fin true n d) a b h k = absurd (true≢false (k .0))
-add-up (fin false m e) (fin false n d) a b h k =
-    round-same binary32 false (m * up e * down d + n * up d * down e) (down e * down d) (a + b) (2 ^ 149) (mul-pos (down-pos e) (down-pos d)) (pow-pos 149) (plus (m * up e) (down e) a (n * up d) (down d) b (h .1) (k .1))
+unfolding sum
+add-up x y a b h k = add-is x y false false a b h k
 
-add-down : (x y : Float) (a b : ℕ) → HasValue x false a (2 ^ 149) → HasValue y true b (2 ^ 149) → b ≤ a → add binary32 x y ≡ round binary32 false (a - b) (2 ^ 149)
-unfolding add sum
-add-down nan y a b h k l = absurd h
-add-down (inf s) y a b h k l = absurd h
-add-down (fin true m e) y a b h k l = absurd (true≢false (h .0))
-add-down (fin false m e) nan a b h k l = absurd k
-add-down (fin false m e) (inf t) a b h k l = absurd k
-add-down (fin false m e) (fin false n d) a b h k l = absurd (false≢true (k .0))
-add-down (fin false m e) (fin true n d) a b h k l =
-    let A = m * up e * down d in
-    let B = n * up d * down e in
-    let C = down e * down d in
-    ap (λ (t : Bool). cond t (round binary32 true (B - A) C) (round binary32 false (A - B) C)) (le-ltb A B (not-below (m * up e) (down e) a (n * up d) (down d) b (h .1) (k .1) l))
-    ∙ round-same binary32 false (A - B) C (a - b) (2 ^ 149) (mul-pos (down-pos e) (down-pos d)) (pow-pos 149) (less (m * up e) (down e) a (n * up d) (down d) b (h .1) (k .1))
+module _ (x y : Float) (a b : ℕ) (h : HasValue x false a (2 ^ 149)) (k : HasValue y true b (2 ^ 149)) where
+  add-down : b ≤ a → add binary32 x y ≡ round binary32 false (a - b) (2 ^ 149)
+  unfolding sum
+  add-down l = add-is x y false true a b h k ∙ rw (le-ltb a b l) refl
 
-add-under : (x y : Float) (a b : ℕ) → HasValue x false a (2 ^ 149) → HasValue y true b (2 ^ 149) → a < b → add binary32 x y ≡ round binary32 true (b - a) (2 ^ 149)
-unfolding add sum
-add-under nan y a b h k l = absurd h
-add-under (inf s) y a b h k l = absurd h
-add-under (fin true m e) y a b h k l = absurd (true≢false (h .0))
-add-under (fin false m e) nan a b h k l = absurd k
-add-under (fin false m e) (inf t) a b h k l = absurd k
-add-under (fin false m e) (fin false n d) a b h k l = absurd (false≢true (k .0))
-add-under (fin false m e) (fin true n d) a b h k l =
-    let A = m * up e * down d in
-    let B = n * up d * down e in
-    let C = down e * down d in
-    ap (λ (t : Bool). cond t (round binary32 true (B - A) C) (round binary32 false (A - B) C)) (lt-ltb A B (is-below (m * up e) (down e) a (n * up d) (down d) b (h .1) (k .1) (mul-pos (down-pos e) (down-pos d)) l))
-    ∙ round-same binary32 true (B - A) C (b - a) (2 ^ 149) (mul-pos (down-pos e) (down-pos d)) (pow-pos 149) (more (m * up e) (down e) a (n * up d) (down d) b (h .1) (k .1))
+  add-under : a < b → add binary32 x y ≡ round binary32 true (b - a) (2 ^ 149)
+  unfolding sum
+  add-under l = add-is x y false true a b h k ∙ rw (lt-ltb a b l) refl
 
 neg-value : (x : Float) (a c : ℕ) → HasValue x false a c → HasValue (neg x) true a c
 unfolding neg
@@ -251,18 +194,6 @@ mul-is (fin u m d) s a n t e h =
     ap (λ (v : Bool). round binary32 (unlike v t) (m * up d * (n * up e)) (down d * down e)) (h .0)
     ∙ round-same binary32 (unlike s t) (m * up d * (n * up e)) (down d * down e) (a * (n * up e)) (2 ^ 149 * down e) (mul-pos (down-pos d) (down-pos e)) (mul-pos (pow-pos 149) (down-pos e)) (product (m * up d) (down d) a (n * up e) (down e) (h .1))
 
--- ---- a product
-
-pub unit-mul : (x y : Float) → Unit x → Unit y → Unit (mul binary32 x y)
-unit-mul x nan u v = absurd (v .value)
-unit-mul x (inf t) u v = absurd (v .value)
-unit-mul x (fin t n e) u v =
-    subst Unit (sym (mul-is x false (u .size) n t e (u .value) ∙ ap (λ (z : Bool). round binary32 (unlike false z) (u .size * (n * up e)) (2 ^ 149 * down e)) (v .value .0)))
-    (unit-fraction (u .size * (n * up e)) (2 ^ 149 * down e) (mul-pos (pow-pos 149) (down-pos e)) (mul-le-mul (u .high) (small (v .value .1))))
-  where
-    small : n * up e * 2 ^ 149 ≡ v .size * down e → n * up e ≤ down e
-    small h = le-of-mul-le-mul-right (le-trans (le-of-eq h) (le-trans (mul-le-mul-right (down e) (v .high)) (le-of-eq (mul-comm (2 ^ 149) (down e))))) (pow-pos 149)
-
 -- ---- how far: from 0 to 1, minus zero too
 
 abbrev pub Share : Float → Type 0
@@ -270,6 +201,24 @@ Share nan = ⊥
 Share (inf s) = ⊥
 Share (fin true m e) = m ≡ 0
 Share (fin false m e) = m * up e ≤ down e
+
+pub share-of : (x : Float) → Unit x → Share x
+share-of nan u = u .value
+share-of (inf s) u = u .value
+share-of (fin true m e) u = absurd (true≢false (u .value .0))
+share-of (fin false m e) u = le-of-mul-le-mul-right (le-trans (le-of-eq (u .value .1)) (le-trans (mul-le-mul-right (down e) (u .high)) (le-of-eq (mul-comm (2 ^ 149) (down e))))) (pow-pos 149)
+
+-- of so many units
+share-unit : (n m : ℕ) (e : ℤ) → n ≤ 2 ^ 149 → m * up e ≤ down e → Unit (round binary32 false (n * (m * up e)) (2 ^ 149 * down e))
+share-unit n m e t w = unit-fraction (n * (m * up e)) (2 ^ 149 * down e) (mul-pos (pow-pos 149) (down-pos e)) (mul-le-mul t w)
+
+-- ---- a product
+
+pub unit-mul : (x y : Float) → Unit x → Unit y → Unit (mul binary32 x y)
+unit-mul x nan u v = absurd (v .value)
+unit-mul x (inf t) u v = absurd (v .value)
+unit-mul x (fin true n e) u v = absurd (true≢false (v .value .0))
+unit-mul x (fin false n e) u v = subst Unit (sym (mul-is x false (u .size) n false e (u .value))) (share-unit (u .size) n e (u .high) (share-of (fin false n e) v))
 
 -- ---- between two
 
@@ -299,9 +248,6 @@ share-size : (n m : ℕ) (e : ℤ) → n ≤ 2 ^ 149 → Grid n → m * up e ≤
 share-size n m e t g w v =
     capped (n * (m * up e)) (2 ^ 149 * down e) n (mul-pos (pow-pos 149) (down-pos e)) t g
     (le-trans (mul-le-mul-right (2 ^ 149) (mul-le-mul-left n w)) (le-of-eq (mul-assoc n (down e) (2 ^ 149) ∙ ap (λ (x : ℕ). n * x) (mul-comm (down e) (2 ^ 149))))) v
-
-share-unit : (n m : ℕ) (e : ℤ) → n ≤ 2 ^ 149 → m * up e ≤ down e → Unit (round binary32 false (n * (m * up e)) (2 ^ 149 * down e))
-share-unit n m e t w = unit-fraction (n * (m * up e)) (2 ^ 149 * down e) (mul-pos (pow-pos 149) (down-pos e)) (mul-le-mul t w)
 
 -- a share of d, of either sign
 module _ (a : Float) (u : Unit a) (d : Float) (n : ℕ) (t : n ≤ 2 ^ 149) (g : Grid n) where
@@ -350,7 +296,7 @@ unit-lerp a b k u v w = ⊎-elim up-to down-to (le-or-lt (u .size) (v .size))
         let c : n ≤ 2 ^ 149 = le-trans (sub-le (v .size) (u .size)) (v .high) in
         let x = unit-units n (le-trans c (lit≤ tt)) in
         subst (λ (z : Float). Unit (add binary32 a (mul binary32 z k))) (sym (add-down b (neg a) (v .size) (u .size) (v .value) (neg-value a (u .size) (2 ^ 149) (u .value)) l))
-        (part-up a u d (x .size) (x .high) (x .grid) (x .value)
+        (part-up a u d (x .size) (x .high) (grid x) (x .value)
         (⊎-elim
         (λ (e : n ≡ 2 ^ 149). le-trans (add-le-add (le-refl (u .size)) (x .high)) (whole (u .size) (v .size) (2 ^ 149) (2 ^ 125) (v .high) l e))
         (λ (h : n < 2 ^ 149). le-trans (add-le-add (le-refl (u .size)) (step n h x)) (near (u .size) (v .size) (2 ^ 149) (2 ^ 125) (v .high) l))
@@ -364,7 +310,7 @@ unit-lerp a b k u v w = ⊎-elim up-to down-to (le-or-lt (u .size) (v .size))
         let c : n ≤ u .size = sub-le (u .size) (v .size) in
         let x = unit-units n (le-trans c (le-trans (u .high) (lit≤ tt))) in
         subst (λ (z : Float). Unit (add binary32 a (mul binary32 z k))) (sym (add-under b (neg a) (v .size) (u .size) (v .value) (neg-value a (u .size) (2 ^ 149) (u .value)) l ∙ sym (neg-round binary32 n (2 ^ 149))))
-        (part-down a u (neg d) (x .size) (x .high) (x .grid) (neg-value d (x .size) (2 ^ 149) (x .value)) (capped n (2 ^ 149) (u .size) (pow-pos 149) (u .high) (u .grid) (mul-le-mul-right (2 ^ 149) c) x) k w)
+        (part-down a u (neg d) (x .size) (x .high) (grid x) (neg-value d (x .size) (2 ^ 149) (x .value)) (capped n (2 ^ 149) (u .size) (pow-pos 149) (u .high) (grid u) (mul-le-mul-right (2 ^ 149) c) x) k w)
 
 -- between 1 and 1
 pub lerp-one : (k : Float) → Share k → lerp one one k ≡ one
@@ -434,12 +380,6 @@ unit-clamp x u = go (lt x +0) (lt one x)
     go true c = unit-zero
     go false true = unit-one
     go false false = u
-
-pub share-of : (x : Float) → Unit x → Share x
-share-of nan u = u .value
-share-of (inf s) u = u .value
-share-of (fin true m e) u = absurd (true≢false (u .value .0))
-share-of (fin false m e) u = le-of-mul-le-mul-right (le-trans (le-of-eq (u .value .1)) (le-trans (mul-le-mul-right (down e) (u .high)) (le-of-eq (mul-comm (2 ^ 149) (down e))))) (pow-pos 149)
 
 -- any finite value, clamped
 pub share-clamp : (s : Bool) (m : ℕ) (e : ℤ) → Share (clamp (fin s m e) +0 one)

@@ -3,59 +3,22 @@
 use mathlib.Core.Path.{_≡_, sym, ap, _∙_, subst}
 use mathlib.Core.Logic.{_⊎_, inl, inr, ⊎-elim}
 use Prim.Native.Nat.{ℕ, zero, suc, _+_, _-_, _*_, _/_, _%_, _^_, _≤_, _<_, compare, Ordering, Ordering·lt, Ordering·eq, Ordering·gt}
-use native.Mathlib.Nat.{le-trans, le-of-eq, le-of-lt, lt-of-lt-of-le, lt-of-le-of-lt, lt-of-not-le, not-le-of-lt, eq-zero-or-pos, zero-mul, mul-one, mul-pos, mul-assoc, mul-right-comm, mul-le-mul-right, mul-lt-mul-of-pos-right, eq-of-mul-eq-mul-right, le-div-iff-mul-le, div-lt-iff-lt-mul, div-mul-le-self}
+use native.Mathlib.Nat.{le-trans, le-of-eq, le-of-lt, lt-of-lt-of-le, lt-of-le-of-lt, lt-of-not-le, not-le-of-lt, eq-zero-or-pos, mul-pos, mul-assoc, mul-right-comm, mul-le-mul-right, mul-lt-mul-of-pos-right, eq-of-mul-eq-mul-right, le-div-iff-mul-le, div-lt-iff-lt-mul, div-mul-le-self}
 use native.Mathlib.Decide.{decLe}
 use native.Mathlib.Omega.{arith}
-use mathlib.Core.Bool.{Bool, true, false, _&&_}
-use lib.IntN.{ℤ, pos, negsuc}
-use lib.Dec.{T, lit<, ltb, leb, eqb, leb→le, ltb→lt}
+use mathlib.Core.Bool.{true, false, _&&_}
+use lib.Dec.{T, lit<, ltb, leb, eqb, ltb→lt}
 use native.Mathlib.Numerals.{add-one}
 use lib.Pow.{pow-add, pow-pos, pow-mono, pow-lt, shl-lt}
 use lib.Ieee.{Float, nan, inf, fin, binary32, up, down, size, nearest, odd, units, fits, toBits}
 use lib.Ieee.Digits.{size-le, size-reaches}
-use lib.Ieee.Fits.{and-l, and-r, down-pos, kept-lt, nearest-le, odd-fits, cond-fits, inf-fits}
+use lib.Ieee.Fits.{and-r, down-pos, kept-lt, nearest-le, odd-fits, cond-fits, inf-fits}
 use lib.Ieee.Exact.{HasValue, units-val}
 use lib.Ieee.Positive.{positive}
 use Rattle.decimal.proofs.Law.{cmp, Cmp, pow-back}
+use Rattle.float.proofs.Units.{Grid, on-grid}
 use Rattle.root.specs.Root.{square, isqrt, closestRoot, rootUnits, squareUnits, sqrt, Farther, NearestRoot}
 use Rattle.root.proofs.Law.{square-mono, square-back, square-mul, isqrt-is, sqrt-is, start-low, start-high}
-
--- ---- a value that fits is m * 2 ^ j units, with m below 2 ^ 24
-abbrev Grid : ℕ → Type 0
-Grid b = (m : ℕ) × (j : ℕ) × (m < 2 ^ 24) × (b ≡ m * 2 ^ j)
-
--- `fits` of a value that is not 0, taken apart: its first three parts
-parts : (m : ℕ) (e : ℤ) (t : Bool) → T (eqb (suc m % 2) 1 && ltb (suc m) (2 ^ 24) && leb (down e) (2 ^ 149) && t) → (suc m < 2 ^ 24) × (down e ≤ 2 ^ 149)
-parts m e t h =
-    let u = and-l (eqb (suc m % 2) 1 && ltb (suc m) (2 ^ 24) && leb (down e) (2 ^ 149)) t h in (
-      ltb→lt (suc m) (2 ^ 24) (and-r (eqb (suc m % 2) 1) (ltb (suc m) (2 ^ 24)) (and-l (eqb (suc m % 2) 1 && ltb (suc m) (2 ^ 24)) (leb (down e) (2 ^ 149)) u)),
-      leb→le (down e) (2 ^ 149) (and-r (eqb (suc m % 2) 1 && ltb (suc m) (2 ^ 24)) (leb (down e) (2 ^ 149)) u),
-    )
-
-on-grid : (y : Float) (b : ℕ) → T (fits binary32 y) → HasValue y false b (2 ^ 149) → Grid b
-unfolding fits
-on-grid nan b f h = absurd h
-on-grid (inf s) b f h = absurd h
-on-grid (fin s zero e) b f h =
-    (0, 0, pow-pos 24, eq-of-mul-eq-mul-right (down e) (down-pos e) b (0 * 1) (sym (h .1) ∙ ap (λ (x : ℕ). x * 2 ^ 149) (zero-mul (up e)) ∙ sym (zero-mul (down e))))
-on-grid (fin s (suc m) (pos a)) b f h =
-    (suc m, a + 149, parts m (pos a) _ f .0, sym (mul-one b) ∙ sym (h .1) ∙ mul-assoc (suc m) (2 ^ a) (2 ^ 149) ∙ ap (λ (x : ℕ). suc m * x) (sym (pow-add 2 a 149)))
-on-grid (fin s (suc m) (negsuc a)) b f h = (
-  suc m,
-  149 - suc a,
-  parts m (negsuc a) _ f .0,
-  eq-of-mul-eq-mul-right (2 ^ suc a) (pow-pos (suc a)) b (suc m * 2 ^ (149 - suc a))
-      (sym (h .1) ∙ ap (λ (x : ℕ). x * 2 ^ 149) (mul-one (suc m)) ∙ ap (λ (x : ℕ). suc m * x) (ap (λ (x : ℕ). 2 ^ x) (split (suc a) low) ∙ pow-add 2 (149 - suc a) (suc a)) ∙ sym (mul-assoc (suc m) (2 ^ (149 - suc a)) (2 ^ suc a))),
-)
-  where
-    low : suc a ≤ 149
-    low = below (suc a) (pow-back (suc a) 150 (lt-of-le-of-lt (parts m (negsuc a) _ f .1) (lit< tt)))
-      where
-        below : (n : ℕ) → n < 150 → n ≤ 149
-        below n h = omega arith
-
-    split : (n : ℕ) → n ≤ 149 → 149 ≡ 149 - n + n
-    split n h = omega arith
 
 multiple : (m j k : ℕ) → k ≤ j → m * 2 ^ j ≡ m * 2 ^ (j - k) * 2 ^ k
 multiple m j k h = ap (λ (x : ℕ). m * x) (ap (λ (x : ℕ). 2 ^ x) split ∙ pow-add 2 (j - k) k) ∙ sym (mul-assoc m (2 ^ (j - k)) (2 ^ k))
@@ -201,7 +164,7 @@ module _ (n m j : ℕ) (range : n < 2 ^ 426) (small : m < 2 ^ 24) (is : n ≡ m 
   pub best : (y : Float) (b : ℕ) → T (fits binary32 y) → HasValue y false b (2 ^ 149) → Farther n g b
   unfolding closestRoot
   best y b f h =
-      middle n q (2 ^ k) b (compare (4 * n) (square ((2 * q + 1) * 2 ^ k))) (gap b q k (on-grid y b f h) long)
+      middle n q (2 ^ k) b (compare (4 * n) (square ((2 * q + 1) * 2 ^ k))) (gap b q k (on-grid y false b f h) long)
       from
       (lt-of-lt-of-le (isqrt-is n .1) (square-mono (isqrt n + 1) ((q + 1) * 2 ^ k) upto))
       (cmp (4 * n) (square ((2 * q + 1) * 2 ^ k)))
