@@ -190,7 +190,7 @@ module _ (t dur : ℤ) (ht : natAbs t ≤ reach) (Has : Float → Type 0) (blend
           let h = eqb-false (r .kind) tKind e in
           rw (decode-single n r l h, apply-own t dur r (decodeIn n l) st) (further (applyOwn t dur (decodeOne r) (λ s. s) st) (rw (own-said t dur r st h) (g (opacity st) u)))
 
--- ---- THE LAW, for every table, and so for every well-formed one
+-- ---- THE LAW, on every well-formed table, both times in range
 
 module _ (ws : List ℕ) (t dur : ℤ) (g : Fine ws t dur) where
   ht : natAbs t ≤ reach

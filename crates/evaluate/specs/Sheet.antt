@@ -6,7 +6,7 @@ use native.Mathlib.Omega.{arith}
 use lib.Dec.{lit<}
 use lib.IntN.{pos}
 use lib.Ieee.{binary32, toBits}
-use Rattle.float.specs.Float.{one, inReach, ofWord}
+use Rattle.float.specs.Float.{inReach, ofWord}
 use Rattle.tag.specs.declared.Record.{Record}
 use Rattle.tag.specs.Tag.{Fad, Fade}
 use Rattle.tag.specs.Table.{rec, tableWords, head}
@@ -36,6 +36,10 @@ fade = rec 2 255 0 128 0 500 600 1000
 abbrev t : ℕ → Record
 t n = rec 49 1 0 1000 0x3F800000 n 0 0
 
+-- \t(0,1000,2,..) with one
+abbrev squared : Record
+squared = rec 49 1 0 1000 0x40000000 1 0 0
+
 -- \r and \fs20
 abbrev reset : Record
 reset = rec 41 0 0 0 0 0 0 0
@@ -49,24 +53,33 @@ size = rec 10 0x41A00000 0 0 0 0 0 0
 abbrev opacityAt : List Record → ℕ → ℕ
 opacityAt l n = toBits binary32 (opacityOf (evaluated (tableWords l) (pos n) (pos 1000)))
 
--- \fad inside a \t, on its way down from 1, at 100 at 0.95; in front of one with \r, on its way up to 1, at 100 at 0.55
-down : map (opacityAt (t 1 ∷ fad ∷ [])) (0 ∷ 100 ∷ 1000 ∷ []) ≡ 0x3F800000 ∷ 0x3F733333 ∷ 0 ∷ []
+pub opacities : (
+    -- \t(0,1000,\fad(200,300)): down from 1, at 100 to 0.95; with an acceleration of 2 to 0.995
+    map (opacityAt (t 1 ∷ fad ∷ [])) (0 ∷ 100 ∷ 1000 ∷ []) ∷
+    map (opacityAt (squared ∷ fad ∷ [])) (0 ∷ 100 ∷ 1000 ∷ []) ∷
+    -- \fad(200,300)\t(0,1000,\r): up to 1, at 100 from 0.5 to 0.55
+    map (opacityAt (fad ∷ t 1 ∷ reset ∷ [])) (0 ∷ 100 ∷ 1000 ∷ []) ∷
+    -- \t(0,1000,\t(0,1000,\fade(255,0,128,0,500,600,1000)))
+    map (opacityAt (t 2 ∷ t 1 ∷ fade ∷ [])) (0 ∷ 250 ∷ 500 ∷ 1000 ∷ []) ∷
+    -- \fs20\t(0,1000,\r\fs20): neither stands
+    map (opacityAt (size ∷ t 2 ∷ reset ∷ size ∷ [])) (0 ∷ 500 ∷ 1000 ∷ []) ∷
+    -- beside a refusal, an instant out of range and a record at fault
+    map (opacityAt (fad ∷ [])) (1000000001 ∷ []) ∷
+    map (opacityAt (rec 1 0 0 1 0 0 0 0 ∷ [])) (0 ∷ []) ∷
+    [])
+    ≡ (
+    (0x3F800000 ∷ 0x3F733333 ∷ 0 ∷ []) ∷
+    (0x3F800000 ∷ 0x3F7EB852 ∷ 0 ∷ []) ∷
+    (0 ∷ 0x3F0CCCCD ∷ 0x3F800000 ∷ []) ∷
+    (0x3F800000 ∷ 0x3F780808 ∷ 0x3F800000 ∷ 0x3EFEFEFE ∷ []) ∷
+    (0x3F800000 ∷ 0x3F800000 ∷ 0x3F800000 ∷ []) ∷
+    (0x3F800000 ∷ []) ∷
+    (0x3F800000 ∷ []) ∷
+    [])
 unfolding tableWords recordsTo rows inRange inReach faultIn excess tableGroundTo timeGround callGroundTo ofWord decoders decodeOne decodeIn applyOwn applyTags evaluateAt evaluatedTo toBits
-down = refl
+opacities = refl
 
-up : map (opacityAt (fad ∷ t 1 ∷ reset ∷ [])) (0 ∷ 100 ∷ 1000 ∷ []) ≡ 0 ∷ 0x3F0CCCCD ∷ 0x3F800000 ∷ []
-unfolding tableWords recordsTo rows inRange inReach faultIn excess tableGroundTo timeGround callGroundTo ofWord decoders decodeOne decodeIn applyOwn applyTags evaluateAt evaluatedTo toBits
-up = refl
-
--- \fade two deep, at 500 and at the end
-deep : map (opacityAt (t 2 ∷ t 1 ∷ fade ∷ [])) (0 ∷ 250 ∷ 500 ∷ 1000 ∷ []) ≡ 0x3F800000 ∷ 0x3F780808 ∷ 0x3F800000 ∷ 0x3EFEFEFE ∷ []
-unfolding tableWords recordsTo rows inRange inReach faultIn excess tableGroundTo timeGround callGroundTo ofWord decoders decodeOne decodeIn applyOwn applyTags evaluateAt evaluatedTo toBits
-deep = refl
-
--- neither: 1, also where a \r comes in
-neither : map (opacityAt (size ∷ t 2 ∷ reset ∷ size ∷ [])) (0 ∷ 500 ∷ 1000 ∷ []) ≡ 0x3F800000 ∷ 0x3F800000 ∷ 0x3F800000 ∷ []
-unfolding tableWords recordsTo rows inRange inReach faultIn excess tableGroundTo timeGround callGroundTo ofWord decoders decodeOne decodeIn applyOwn applyTags evaluateAt evaluatedTo toBits
-neither = refl
+-- ---- which tables have neither
 
 none-stands : NoFades (tableWords (size ∷ t 2 ∷ reset ∷ size ∷ []))
 unfolding tableWords recordsTo
@@ -79,8 +92,3 @@ none-stands = more (other 10 (lit< tt)) (more (other 49 (lit< tt)) (more (other 
 one-stands : NoFades (tableWords (size ∷ t 1 ∷ fade ∷ [])) → ⊥
 unfolding tableWords recordsTo
 one-stands (more a (more b (more c d))) = c .1 refl
-
--- beside a refusal it is 1: an instant out of range, a \fad whose word is not in range
-refused : (opacityOf (evaluated (tableWords (fad ∷ [])) (pos 1000000001) (pos 1000)) ≡ one) × (opacityAt (rec 1 0 0 1 0 0 0 0 ∷ []) 0 ≡ 0x3F800000)
-unfolding tableWords recordsTo rows inRange inReach faultIn excess tableGroundTo timeGround callGroundTo ofWord evaluatedTo toBits
-refused = (refl, refl)
