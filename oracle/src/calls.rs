@@ -2,7 +2,7 @@
 
 use std::hint::black_box;
 
-use crate::built::animate::{self, CueAnimation};
+use crate::built::animate::{self, CueAnimation, RenderState};
 use crate::built::drawing;
 use crate::library;
 use crate::suites::source::Source;
@@ -90,9 +90,12 @@ pub fn rust(call: Call, inputs: &[Input], times: u32) {
             let (scale, rest) = drawing::split_clip_arg(checked(input));
             (scale, rest.as_ptr(), rest.len())
         }),
-        Call::Evaluate => each(inputs, times, |input| {
-            input.cue.evaluate_at(input.t, input.duration)
-        }),
+        Call::Evaluate => {
+            let state = evaluate_at();
+            each(inputs, times, |input| {
+                state(&input.cue, input.t, input.duration)
+            })
+        }
         Call::NextMark => each(inputs, times, next_change),
         Call::Spans => each(inputs, times, |input| input.cue.karaoke_spans()),
     }
@@ -102,9 +105,16 @@ fn checked(input: &Input) -> &str {
     std::str::from_utf8(input.text.as_bytes()).expect("an ASCII text")
 }
 
+/// `evaluate_at` by a call, as a host gets it, whose crate is another. Else it hangs on what stands
+/// beside it here whether the compiler puts it into the loop that is timed.
+fn evaluate_at() -> fn(&CueAnimation, i32, i32) -> RenderState {
+    black_box(CueAnimation::evaluate_at)
+}
+
 /// The Rust has no marks: its states are walked until one differs or the line ends.
 fn next_change(input: &Input) -> Option<i32> {
-    let state = |t| input.cue.evaluate_at(t, input.duration);
+    let evaluate_at = evaluate_at();
+    let state = |t| evaluate_at(&input.cue, t, input.duration);
     let now = state(input.t);
     (input.t + 1..=input.duration).find(|&t| state(t) != now)
 }

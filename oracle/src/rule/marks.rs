@@ -126,7 +126,6 @@ mod tests {
     use crate::built::animate::CueAnimation;
     use crate::generate::table::{instant, well_formed};
     use crate::random::Random;
-    use crate::rule::opacity::evaluated;
     use crate::rule::refusal::instants;
 
     #[test]
@@ -164,7 +163,7 @@ mod tests {
             let cue = CueAnimation {
                 tags: decode::tags(&table),
             };
-            let at = |t| state::words(&evaluated(&cue, t, duration));
+            let at = |t| state::words(&cue.evaluate_at(t, duration));
             assert_eq!(at(t), at(last), "{table:?} {t} {last} {duration}");
         }
     }

@@ -2,16 +2,14 @@
 
 use crate::built::animate::{AnimatedTag, CueAnimation, RenderState};
 
-/// The state of the Rust at an instant, both in range, with its opacity held to the rule.
-pub fn evaluated(cue: &CueAnimation, t: i32, duration: i32) -> RenderState {
-    let state = cue.evaluate_at(t, duration);
+/// Holds the opacity of a state of the Rust, at an instant and a duration in range, to the rule.
+pub fn check(cue: &CueAnimation, state: &RenderState) {
     let opacity = state.alpha_mul;
     assert!(
         holds(&cue.tags, opacity),
-        "opacity {opacity:?} at {t} of {duration}: {:?}",
+        "opacity {opacity:?}: {:?}",
         cue.tags
     );
-    state
 }
 
 /// Minus zero is left out too: as a number the bits are at most those of 1.

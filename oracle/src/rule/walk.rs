@@ -3,7 +3,7 @@
 
 use crate::answer::state;
 use crate::built::animate::{AnimatedTag, CueAnimation};
-use crate::rule::opacity::evaluated;
+use crate::rule::opacity;
 use crate::rule::refusal::FARTHEST;
 
 /// A ramp, or one mark where it has no length.
@@ -65,7 +65,11 @@ pub fn wrong(
     steps: usize,
 ) -> Option<String> {
     let marked = |m: i64| is_mark(&cue.tags, m, i64::from(duration));
-    let at = |m: i64| state::words(&evaluated(cue, m as i32, duration));
+    let at = |m: i64| {
+        let state = cue.evaluate_at(m as i32, duration);
+        opacity::check(cue, &state);
+        state::words(&state)
+    };
     let now = at(i64::from(t));
     let end = next.unwrap_or(FARTHEST + 1);
     let near = (i64::from(t) + 1..end).take(steps);

@@ -9,8 +9,7 @@ use crate::generate::table::instant;
 use crate::library::hannuvel_evaluate_at;
 use crate::random::Random;
 use crate::rule::marks::around;
-use crate::rule::opacity::evaluated;
-use crate::rule::refusal;
+use crate::rule::{opacity, refusal};
 use crate::sample::{Sampled, line, short_sample};
 use crate::shrink::Cases;
 use crate::suite::{Answer, Suite};
@@ -48,7 +47,9 @@ impl Case {
 
     /// The state of the Rust, with strings spelled by their parts.
     pub fn state(&self) -> RenderState {
-        let state = evaluated(&self.source.cue(), self.t, self.duration);
+        let cue = self.source.cue();
+        let state = cue.evaluate_at(self.t, self.duration);
+        opacity::check(&cue, &state);
         self.check_names(&state);
         state
     }
@@ -58,7 +59,7 @@ impl Case {
         let (Some(tags), Some(text)) = (self.source.rust_tags(), &self.source.text) else {
             return;
         };
-        let own = evaluated(&CueAnimation { tags }, self.t, self.duration);
+        let own = CueAnimation { tags }.evaluate_at(self.t, self.duration);
         let named = with_named_bytes(state, text);
         // The debug form tells -0 from 0 and takes all NaNs as one.
         let same = format!("{own:?}") == format!("{named:?}");
