@@ -271,8 +271,8 @@ uint64_t hannuvel_parse_raw_block(const uint8_t *text, size_t bytes, uint32_t *t
  * bits, 7FC00000 for a NaN. A field that a tag may leave to the style begins with a flag: 1, and its words follow; or
  * 0, none of the tags sets it, and they are 0. An offset and a length name a part of the text that was read.
  *
- * The opacity is 0.0 to 1.0, no NaN and no minus zero, whatever the table: its word is at most 3F800000, and a host may
- * multiply by it unchecked. Where no \fad or \fade stands at any depth it is 1.0, and the word is 3F800000. */
+ * The opacity written is 0.0 to 1.0, no NaN and no minus zero: its word is at most 3F800000, and a host may multiply by
+ * it unchecked. Where no \fad or \fade stands at any depth it is 1.0, and the word is 3F800000. */
 enum hannuvel_state {
     HANNUVEL_STATE_ALPHA_MUL = 0,                      /* \fad and \fade, f32, 0.0 to 1.0, no NaN: 1.0 opaque */
     HANNUVEL_STATE_ROTATE_RADIANS = 1,                 /* \frz, f32 */

@@ -204,7 +204,7 @@ module _ (ws : List ℕ) (t dur : ℤ) (g : Fine ws t dur) where
   one-said : (r : Record) → NoFade r → (x : Float) → x ≡ one → said t dur r x (r .kind) ≡ one
   one-said r h x u = rw (ne-eqb (r .kind) 1 (h .0), ne-eqb (r .kind) 2 (h .1)) (picked (λ (y : Float). y ≡ one) (eqb (r .kind) 41) one x refl u)
 
-  pub unit-at : Unit (opacity (evaluateAt t dur (tagsOf ws)))
+  unit-at : Unit (opacity (evaluateAt t dur (tagsOf ws)))
   unfolding evaluateAt identity
   unit-at = kept t dur ht Unit unit-lerp (length (recordsOf ws)) (recordsOf ws) identity (every unit-said (recordsOf ws)) unit-one
     where
@@ -212,11 +212,11 @@ module _ (ws : List ℕ) (t dur : ℤ) (g : Fine ws t dur) where
       every h [] = all
       every h (r ∷ l) = more (h r) (every h l)
 
-  pub one-at : NoFades ws → opacity (evaluateAt t dur (tagsOf ws)) ≡ one
+  one-at : NoFades ws → opacity (evaluateAt t dur (tagsOf ws)) ≡ one
   unfolding evaluateAt identity
   one-at a = kept t dur ht (λ x. x ≡ one) (λ x y k p q s. rw (p, q) (lerp-one k s)) (length (recordsOf ws)) (recordsOf ws) identity (all-map one-said a) refl
 
-  pub within : Opacity ws (opacity (evaluateAt t dur (tagsOf ws)))
+  within : Opacity ws (opacity (evaluateAt t dur (tagsOf ws)))
   within = record { unit = in-unit _ unit-at; plain = one-at }
 
 -- ---- of every answer: beside a refusal it is 1

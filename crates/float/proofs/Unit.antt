@@ -50,10 +50,6 @@ sizes (fin s m e) (fin t n d) a b h k l =
 
 -- ---- rounding
 
-one-is : round binary32 false (2 ^ 149) (2 ^ 149) ≡ one
-unfolding round
-one-is = refl
-
 -- half way from 1 to the next value goes to 1
 tie-is : round binary32 false (2 ^ 149 + 2 ^ 125) (2 ^ 149) ≡ one
 unfolding round
@@ -71,7 +67,7 @@ unfolding fits
 unit-one = record { size = 2 ^ 149; value = one-value; high = le-refl (2 ^ 149); f32 = tt }
 
 -- what rounds to at most 1
-pub unit-round : (a c : ℕ) → 0 < c → a * 2 ^ 149 ≤ (2 ^ 149 + 2 ^ 125) * c → Unit (round binary32 false a c)
+unit-round : (a c : ℕ) → 0 < c → a * 2 ^ 149 ≤ (2 ^ 149 + 2 ^ 125) * c → Unit (round binary32 false a c)
 unfolding le
 unit-round a c C h =
     go (round binary32 false a c) (round-up binary32 a c) (round-fits binary32 false a c)
@@ -87,7 +83,7 @@ unit-round a c C h =
         record { size = o .0; value = o .1; high = sizes (fin false m e) one (o .0) (2 ^ 149) (o .1) one-value l; f32 = f }
 
 -- a fraction up to 1
-pub unit-fraction : (a c : ℕ) → 0 < c → a ≤ c → Unit (round binary32 false a c)
+unit-fraction : (a c : ℕ) → 0 < c → a ≤ c → Unit (round binary32 false a c)
 unit-fraction a c C h = unit-round a c C (le-trans (mul-le-mul-right (2 ^ 149) h) (le-trans (le-of-eq (mul-comm c (2 ^ 149))) (mul-le-mul-right c (lit≤ tt))))
 
 -- so many units, up to half a step above 1

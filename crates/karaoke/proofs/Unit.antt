@@ -1,4 +1,4 @@
--- 01, Karaoke: progress is 0 up to the start, and within 0 to 1 always. (1 from the end on: Passing.antt.)
+-- 01, Karaoke: progress is within 0 to 1 always. (0 up to the start, 1 from the end on: Passing.antt.)
 use mathlib.Core.Path.{_≡_, refl}
 use mathlib.Core.Bool.{Bool, true, false}
 use Prim.Native.Nat.{ℕ, _≤_}
@@ -20,12 +20,7 @@ use Rattle.karaoke.specs.declared.KaraokeSpan.{KaraokeSpan}
 use Rattle.karaoke.specs.Karaoke.{mostMs}
 use Rattle.karaoke.specs.Progress.{whole, progressIn, instantGround, progressedOr, progressed, progressOf}
 
--- up to the start
-pub up-to-start : (start end t : ℤ) → leZ t start ≡ true → progressIn start end t ≡ zero
-unfolding progressIn
-up-to-start start end t h = rw h
-
--- and from there on
+-- whatever the two ends and the instant
 unit-in : (start end : ℕ) (t : ℤ) → end ≤ mostMs → Unit (progressIn (pos start) (pos end) t)
 unfolding progressIn
 unit-in start end t m = go (leZ t (pos start)) (leZ (pos end) t) refl refl
@@ -35,7 +30,7 @@ unit-in start end t m = go (leZ t (pos start)) (leZ (pos end) t) refl refl
     go false true p q = unit-one
     go false false p q = let w = way (pos start) t (pos end) p q in picked Unit (leZ (pos end) (pos start)) one _ unit-one (unit-between (pos start) t (pos end) p q (omega (arith, w .0)))
 
--- whatever the span and the instant, beside a refusal too
+-- and so of every span, beside a refusal too
 pub progress-in-unit : (s : KaraokeSpan) (t : ℤ) → s .«end_ms» .0 ≤ mostMs → InUnit (progressOf (progressed s t))
 unfolding progressed
 progress-in-unit s t m = go (instantGround t)

@@ -126,6 +126,7 @@ mod tests {
     use crate::built::animate::CueAnimation;
     use crate::generate::table::{instant, well_formed};
     use crate::random::Random;
+    use crate::rule::opacity;
     use crate::rule::refusal::instants;
 
     #[test]
@@ -163,7 +164,11 @@ mod tests {
             let cue = CueAnimation {
                 tags: decode::tags(&table),
             };
-            let at = |t| state::words(&cue.evaluate_at(t, duration));
+            let at = |t| {
+                let state = cue.evaluate_at(t, duration);
+                opacity::check(&cue, &state);
+                state::words(&state)
+            };
             assert_eq!(at(t), at(last), "{table:?} {t} {last} {duration}");
         }
     }
