@@ -1,18 +1,19 @@
 // 01, What demand 3 speaks of: two controllers read one block into tables of their own and ask for states and marks, by the C calls.
+#![tactic(auto)]
 ghost use Rattle.std.specs.Prelude.{◌≡◌, take};
 ghost use Rattle.hannuvel.specs.Packed.{ReadingCall};
 ghost use Rattle.animate.specs.Claim.{read_span, lent, Agreed};
 ghost use Rattle.animate.specs.Inner.{words_in, Saw, Ran};
 
 // The numbers that a controller is given at an instant: of evaluation and of the next mark.
-#[derive(Drop)]
+#[derive(Clone, Copy, Drop)]
 pub struct Seen {
     pub evaluated: u64,
     pub next: u64,
 }
 
 // What one controller is told: by the reading, and at two instants.
-#[derive(Drop)]
+#[derive(Clone, Copy, Drop)]
 pub struct Told {
     pub reading: u64,
     pub one: Seen,
@@ -20,7 +21,7 @@ pub struct Told {
 }
 
 // What two are told.
-#[derive(Drop)]
+#[derive(Clone, Copy, Drop)]
 pub struct Both {
     pub a: Told,
     pub b: Told,

@@ -1,10 +1,11 @@
 // Clip arguments: the scale, and the rest of the caller's own slice.
+#![tactic(auto)]
 ghost use Rattle.std.specs.Prelude.{◌≡◌};
 ghost use Rattle.clips.specs.Clip.{at_least_one, clip_parts, clip_of, IsRest, Splits};
 ghost use Rattle.clips.specs.Inner.{ClipIn};
 
 // A clip argument: a ground that stands against it, the scale, and where the rest of it begins and ends.
-#[derive(Drop)]
+#[derive(Clone, Copy, Drop)]
 pub struct Clip {
     pub checked: refusal::Checked,
     pub scale: u32,
@@ -89,7 +90,7 @@ pub fn clip_rest(text: &[u8]) -> &[u8]
 }
 
 // A clip argument: the rest of the caller's own slice, the scale, and the ground that stands against it.
-#[derive(Drop)]
+#[derive(Clone, Copy, Drop)]
 pub struct ClipArg<'a> {
     pub rest: &'a [u8],
     pub scale: u32,

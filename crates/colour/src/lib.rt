@@ -1,18 +1,19 @@
 // Alphas and colours as a tag writes them, in hexadecimal.
+#![tactic(auto)]
 ghost use Rattle.std.specs.Prelude.{◌≡◌, ◌+◌, ◌-◌, ◌≤◌, length};
 ghost use Rattle.colour.specs.Colour.{trimmed as trimmed_to, ampersands as ampersands_to, zero_xat, digits, cap, rgb, alpha_at, colour_at};
 ghost use Rattle.colour.specs.Inner.{Inside};
 ghost use Rattle.scan.specs.Scan.{skip_to, Place};
 
 // What stands in the text from one place to another.
-#[derive(Drop)]
+#[derive(Clone, Copy, Drop)]
 pub struct Stretch {
     pub from: usize,
     pub to: usize,
 }
 
 // A colour: none, or red, green and blue.
-#[derive(Drop)]
+#[derive(Clone, Copy, Drop)]
 pub enum Colour {
     No,
     Rgb(u32, u32, u32),

@@ -1,4 +1,5 @@
 // The state of a table's tags at an instant: `evaluate_at` of the Rust, by value and as the 92 words of the C interface.
+#![tactic(auto)]
 ghost use Rattle.std.specs.Prelude.{◌≡◌};
 ghost use Rattle.evaluate.specs.Inner.{is_good, AppliedAll};
 ghost use Rattle.evaluate.specs.Evaluate.{evaluated, StateStands, opacity_of, Opacity, InWords};
@@ -7,7 +8,7 @@ use refusal::{Checked, Refusal};
 use state::RenderState;
 
 // What the call answers.
-#[derive(Drop)]
+#[derive(Clone, Copy, Drop)]
 pub enum Evaluated {
     State(RenderState),
     Refused(Refusal),

@@ -1,4 +1,5 @@
 // Karaoke: the spans that the karaoke tags of a table make, and how far an instant is in one.
+#![tactic(auto)]
 ghost use Rattle.std.specs.Prelude.{◌≡◌, [], ◌∷◌, ◌++◌, ◌+◌, ◌≤◌, ◌<◌, length, take, drop};
 ghost use Rattle.float.specs.Float.{InUnit};
 ghost use Rattle.tag.specs.Decode.{beat_of};
@@ -14,11 +15,11 @@ use refusal::{Answer, Checked, Refusal};
 use tag::{Cs, KaraokeKind, Record};
 
 // Milliseconds, in which spans count: never taken for centiseconds.
-#[derive(Drop)]
+#[derive(Clone, Copy, Drop)]
 pub struct Ms(pub u32);
 
 // One syllable's time in a line.
-#[derive(Drop)]
+#[derive(Clone, Copy, Drop)]
 pub struct KaraokeSpan {
     pub kind: KaraokeKind,
     pub start_ms: Ms,
@@ -26,7 +27,7 @@ pub struct KaraokeSpan {
 }
 
 // What `progress` answers.
-#[derive(Drop)]
+#[derive(Clone, Copy, Drop)]
 pub enum Progressed {
     At(f32),
     Refused(Refusal),
@@ -62,7 +63,7 @@ fn plus(a: Ms, b: Ms) -> Ms
 // ---- the walk over the spans of a table
 
 // The span that a walk has come to, and the record behind its tag.
-#[derive(Drop)]
+#[derive(Clone, Copy, Drop)]
 pub struct Walk {
     pub span: KaraokeSpan,
     pub next: usize,

@@ -1,4 +1,5 @@
 // The leaf functions as C calls, for tests. A text of more than 12,288 bytes is not read.
+#![tactic(auto)]
 ghost use Rattle.std.specs.Prelude.{◌≡◌, true, false, ◌≤◌, pos, length};
 ghost use Rattle.std.specs.Float.{binary32};
 ghost use Rattle.std.specs.Float.Ieee.{of_int, to_signed, to_unsigned};

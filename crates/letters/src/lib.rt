@@ -1,4 +1,5 @@
 // What a letter of a drawing does.
+#![tactic(auto)]
 ghost use Rattle.std.specs.Prelude.{◌≡◌, ◌≤◌, ◌<◌, length};
 ghost use Rattle.tokens.specs.Tokens.{from as tokens_from};
 ghost use Rattle.path.specs.Inner.{Emits};
@@ -10,7 +11,7 @@ use pen::{Command, Ctrl, Mode, Pen, settled};
 use points::{OnePoint, read_point};
 
 // Where a drawing stands: the pen, the commands so far, and the place behind the last token.
-#[derive(Drop)]
+#[derive(Clone, Copy, Drop)]
 pub struct Stand {
     pub pen: Pen,
     pub n: usize,

@@ -1,17 +1,18 @@
 // Comma lists of numbers.
+#![tactic(auto)]
 ghost use Rattle.std.specs.Prelude.{◌≡◌, ◌≤◌, length, set};
 ghost use Rattle.lists.specs.Lists.{first_of};
 ghost use Rattle.lists.specs.Inner.{item_at, items_to, is_word, word_of, long_of, numbers_of};
 
 // A place of the text, or none.
-#[derive(Drop)]
+#[derive(Clone, Copy, Drop)]
 pub enum Found {
     Nowhere,
     At(usize),
 }
 
 // A comma list: whether every part is a number, how many parts there are, the words of the first seven, and the place of the first numeral that is too long.
-#[derive(Drop)]
+#[derive(Clone, Copy, Drop)]
 pub struct Numbers {
     pub all: bool,
     pub count: usize,

@@ -1,4 +1,5 @@
 // The machine that takes a drawing's tokens one after the other: what a token that is no letter does, and the loop over all of them.
+#![tactic(auto)]
 ghost use Rattle.std.specs.Prelude.{◌≡◌, ◌+◌, ◌≤◌, ◌<◌, length};
 ghost use Rattle.tokens.specs.Tokens.{from as tokens_from};
 ghost use Rattle.tokens.specs.Inner.{NextIs};
@@ -167,7 +168,7 @@ fn turn_ground(text: &[u8], t: Token, k: usize) -> Checked
 }
 
 // Ground 3, and how many commands a drawing has where it does not stand.
-#[derive(Drop)]
+#[derive(Clone, Copy, Drop)]
 pub struct Traced {
     pub ground: Checked,
     pub n: usize,

@@ -1,4 +1,5 @@
 // The marks of a block: the milliseconds at which the picture may move.
+#![tactic(auto)]
 ghost use Rattle.std.specs.Prelude.{◌≡◌, ◌+◌, ◌-◌, ◌≤◌, min, pos, ◌<ℤ◌, length, drop};
 ghost use Rattle.state.specs.Apply.{from_zero_lem};
 ghost use Rattle.tag.specs.Tag.{Fad};
@@ -12,14 +13,14 @@ ghost use Rattle.table.specs.Ground.{Fine};
 use refusal::{Checked, Refusal};
 
 // The next mark after an instant, if there is one.
-#[derive(Drop)]
+#[derive(Clone, Copy, Drop)]
 pub enum Mark {
     None,
     At(i32),
 }
 
 // What the call answers.
-#[derive(Drop)]
+#[derive(Clone, Copy, Drop)]
 pub enum Marked {
     Next(Mark),
     Refused(Refusal),

@@ -1,4 +1,5 @@
 // How far a \t has come, and how a state goes over into another inside it.
+#![tactic(auto)]
 ghost use Rattle.std.specs.Prelude.{◌≡◌};
 ghost use Rattle.scan.specs.Scan.{pick};
 ghost use Rattle.tag.specs.Decode.{f, times_of};

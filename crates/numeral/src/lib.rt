@@ -1,4 +1,5 @@
 // Numbers as text writes them: numerals, whole numbers, hexadecimal.
+#![tactic(auto)]
 ghost use Rattle.std.specs.Prelude.{◌≡◌, ◌+◌, ◌-◌, ◌*◌, ◌^◌, ◌≤◌, ◌<◌, min, length};
 ghost use Rattle.scan.specs.Scan.{span_to, Place};
 ghost use Rattle.std.specs.Float.{binary32};
@@ -7,7 +8,7 @@ ghost use Rattle.numeral.specs.Inner.{Split, Counted, Says};
 ghost use Rattle.numeral.specs.Numeral.{value as value_of, is_digit, most, whole_number, up_to, word_of_i32, i32_at, hex_at, split_at, exponent_at, digits_of, before as before_of, behind as behind_of, zeros as zeros_of, nearest, signed, word_of_f32, f32_of, f32_at};
 
 // What a field holds: no number, a numeral that is too long with the place of its first byte, or the word of a number.
-#[derive(Drop)]
+#[derive(Clone, Copy, Drop)]
 pub enum Numeral {
     No,
     TooLong(usize),
@@ -15,7 +16,7 @@ pub enum Numeral {
 }
 
 // Where a decimal numeral's digits stand: before the point from `from` to `whole`, behind it from `fraction` to `end`.
-#[derive(Drop)]
+#[derive(Clone, Copy, Drop)]
 pub struct Decimal {
     pub from: usize,
     pub whole: usize,
@@ -106,14 +107,14 @@ pub fn hex_at(text: &[u8], a: usize, b: usize) -> Numeral
 }
 
 // Decimal digits from a place on: where they end, and the number that they write behind a start if there are at most nine.
-#[derive(Drop)]
+#[derive(Clone, Copy, Drop)]
 pub struct Run {
     pub end: usize,
     pub value: u64,
 }
 
 // A numeral's digits and the number that they write.
-#[derive(Drop)]
+#[derive(Clone, Copy, Drop)]
 pub struct Written {
     pub at: Decimal,
     pub digits: u64,
@@ -203,7 +204,7 @@ fn decimal_word(text: &[u8], a: usize, b: usize, digits: u64, tens: usize) -> u3
 
 // 02, N4: a point with w digits before it and f behind it, shifted by n places, to the left if there is a minus: the digits on
 // both sides, and the zeros put in before it.
-#[derive(Drop)]
+#[derive(Clone, Copy, Drop)]
 pub struct Shift {
     pub before: usize,
     pub behind: usize,

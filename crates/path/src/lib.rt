@@ -1,16 +1,17 @@
 // Points, the commands of a path, and writing them into a lent table.
+#![tactic(auto)]
 ghost use Rattle.std.specs.Prelude.{◌≡◌, [], ◌∷◌, ◌<◌};
 ghost use Rattle.path.specs.Path.{laid_path, move_to, line_to, cubic_to, closed};
 ghost use Rattle.path.specs.Inner.{Emits};
 
-#[derive(Drop)]
+#[derive(Clone, Copy, Drop)]
 pub struct Point {
     pub x: f32,
     pub y: f32,
 }
 
 // 01, "`Path`: a lent table of eight words a command": its kind, then seven words.
-#[derive(Drop)]
+#[derive(Clone, Copy, Drop)]
 pub struct PathCommand {
     pub kind: u32,
     pub w1: u32,

@@ -1,4 +1,5 @@
 // The pen, what a letter can ask of it, and splines that draw as their control points come.
+#![tactic(auto)]
 ghost use Rattle.std.specs.Prelude.{◌≡◌, [], ◌∷◌, ◌<◌};
 ghost use Rattle.pen.specs.Drawing.{bez as bez_of, span_of, span_gives, spline_point, settled as settled_pen};
 ghost use Rattle.path.specs.Inner.{Emits};
@@ -7,7 +8,7 @@ ghost use Rattle.pen.specs.Inner.{Stroked};
 use path::{Point, cubic_to, line_to};
 
 // A spline's control points: one, two or three that have drawn nothing yet, or the last two behind a span.
-#[derive(Drop)]
+#[derive(Clone, Copy, Drop)]
 pub enum Ctrl {
     One(Point),
     Two(Point, Point),
@@ -16,7 +17,7 @@ pub enum Ctrl {
 }
 
 // What a number without a letter continues: nothing, lines, cubics or a spline.
-#[derive(Drop)]
+#[derive(Clone, Copy, Drop)]
 pub enum Mode {
     Idle,
     Lines,
@@ -25,7 +26,7 @@ pub enum Mode {
 }
 
 // The current point, whether the subpath is open, and what goes on.
-#[derive(Drop)]
+#[derive(Clone, Copy, Drop)]
 pub struct Pen {
     pub cur: Point,
     pub opened: bool,
@@ -33,7 +34,7 @@ pub struct Pen {
 }
 
 // What a letter asks for.
-#[derive(Drop)]
+#[derive(Clone, Copy, Drop)]
 pub enum Command {
     Move,
     MoveOpen,
@@ -45,7 +46,7 @@ pub enum Command {
 }
 
 // A pen and the commands so far.
-#[derive(Drop)]
+#[derive(Clone, Copy, Drop)]
 pub struct Stroke {
     pub pen: Pen,
     pub n: usize,

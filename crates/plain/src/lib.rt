@@ -1,4 +1,5 @@
 // One tag of a block, \t apart: its name, its parameter, its record.
+#![tactic(auto)]
 ghost use Rattle.std.specs.Prelude.{◌≡◌, ◌+◌, ◌-◌, ◌^◌, ◌≤◌, ◌<◌, length};
 ghost use Rattle.tag.specs.Table.{rec};
 ghost use Rattle.plain.specs.Names.{key_of, lowered, key_at, lookup, names};
@@ -6,7 +7,7 @@ ghost use Rattle.plain.specs.Plain.{is_fn, is_named_reset, part, plain_at_lem};
 ghost use Rattle.plain.specs.Inner.{code_of, keep_word, beat_word, baseline_word, edge_word, cut_word, long_or, pair_tag, move_tag, not_below_zero_word, byte_word_lem, far_word, fad_tag, fade_tag, ranged_tag, weight_tag, flag_tag, alpha_tag, colour_tag, clip_tag, reset_tag, fn_tag, part_of, shaped_tag, kept_of};
 
 // What a tag's parameter is, with the kind of the record that it makes.
-#[derive(Drop)]
+#[derive(Clone, Copy, Drop)]
 pub enum Shape {
     Float(u32),
     Pair(u32),
@@ -27,7 +28,7 @@ pub enum Shape {
 }
 
 // What a tag gives: nothing, a numeral that is too long with its place, a record, or that of a \fade whose times lie too far off.
-#[derive(Drop)]
+#[derive(Clone, Copy, Drop)]
 pub enum Kept {
     No,
     Long(usize),
@@ -36,7 +37,7 @@ pub enum Kept {
 }
 
 // A part of the text as two words of a record.
-#[derive(Drop)]
+#[derive(Clone, Copy, Drop)]
 pub struct PartWords {
     pub offset: u32,
     pub size: u32,

@@ -1,4 +1,5 @@
 // Points, read from the tokens of a drawing.
+#![tactic(auto)]
 ghost use Rattle.std.specs.Prelude.{◌≤◌, length};
 ghost use Rattle.tokens.specs.Inner.{NextIs};
 ghost use Rattle.points.specs.Inner.{PointFrom, ReadsPoint, ReadsThree};
@@ -7,14 +8,14 @@ use path::Point;
 use tokens::{Next, Token, next_token};
 
 // A point and the place behind it, or none.
-#[derive(Drop)]
+#[derive(Clone, Copy, Drop)]
 pub enum OnePoint {
     No,
     At(Point, usize),
 }
 
 // Three points and the place behind them, or none.
-#[derive(Drop)]
+#[derive(Clone, Copy, Drop)]
 pub enum ThreePoints {
     No,
     At(Point, Point, Point, usize),

@@ -1,4 +1,5 @@
 // Override blocks into tables: the two reading calls.
+#![tactic(auto)]
 ghost use Rattle.std.specs.Prelude.{◌≡◌, ◌+◌, ◌-◌, ◌*◌, ◌^◌, ◌≤◌, ◌<◌, length};
 ghost use Rattle.lists.specs.Lists.{first_of};
 ghost use Rattle.refusal.specs.Refusal.{most_bytes, text_ground};
@@ -10,7 +11,7 @@ ghost use Rattle.read.specs.Moved.{AsAlone};
 ghost use Rattle.read.specs.Inner.{HeadIn, headed, t_words, Peels, no_place, InWord, found_of, seen_of, kept_records, kept_got, joined_out, around_out, Told, BraceEnd};
 
 // A tag: where its name begins and ends, its parameter from p to q, and the place behind both.
-#[derive(Drop)]
+#[derive(Clone, Copy, Drop)]
 pub struct Head {
     pub name: usize,
     pub end: usize,
@@ -20,7 +21,7 @@ pub struct Head {
 }
 
 // The words of the first three numbers of a \t, and how many there are.
-#[derive(Drop)]
+#[derive(Clone, Copy, Drop)]
 pub struct Heads {
     pub count: usize,
     pub w0: u32,
@@ -29,7 +30,7 @@ pub struct Heads {
 }
 
 // The numbers of a \t, where its tags begin, and a numeral that is too long.
-#[derive(Drop)]
+#[derive(Clone, Copy, Drop)]
 pub struct Peeled {
     pub heads: Heads,
     pub rest: usize,
@@ -40,7 +41,7 @@ pub struct Peeled {
 const NO_PLACE: u32 = 4294967295;
 
 // What a reader gives: how many records, the place of the first numeral that is too long, that of the first \fade whose times lie too far off; `NO_PLACE` where there is none.
-#[derive(Drop)]
+#[derive(Clone, Copy, Drop)]
 pub struct Out {
     pub n: u32,
     pub long: u32,
@@ -48,7 +49,7 @@ pub struct Out {
 }
 
 // The part of the text that is read.
-#[derive(Drop)]
+#[derive(Clone, Copy, Drop)]
 pub struct Span {
     pub from: usize,
     pub to: usize,

@@ -1,10 +1,11 @@
 // 01, Grounds for turning a call down.
+#![tactic(auto)]
 ghost use Rattle.std.specs.Prelude.{◌≡◌, ◌≤◌};
 ghost use Rattle.refusal.specs.Refusal.{number_of, place_of, text_ground};
 ghost use Rattle.refusal.specs.Answer.{first_ground};
 
 // The nine grounds in checking order, each with its place or count where it has one.
-#[derive(Drop)]
+#[derive(Clone, Copy, Drop)]
 pub enum Refusal {
     TextTooLong,
     NotAscii(usize),
@@ -18,14 +19,14 @@ pub enum Refusal {
 }
 
 // What a check finds: nothing against a call, or a ground.
-#[derive(Drop)]
+#[derive(Clone, Copy, Drop)]
 pub enum Checked {
     Good,
     Bad(Refusal),
 }
 
 // What a call that fills a table answers: how many records or commands it wrote, or the refusal.
-#[derive(Drop)]
+#[derive(Clone, Copy, Drop)]
 pub enum Answer {
     Written(usize),
     Refused(Refusal),

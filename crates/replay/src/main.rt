@@ -1,4 +1,5 @@
 // Replays a stored list: each line of standard input names a call and gives its words and its text, and standard output has a line for each, with the result and every word that was lent.
+#![tactic(auto)]
 mod leaf;
 
 fn write_word(w: u32) {

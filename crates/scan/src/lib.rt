@@ -1,11 +1,13 @@
 // Scans over a text by positions: classes of bytes, blanks, trimming, the closing parenthesis.
+#![tactic(auto)]
+
 ghost use Rattle.std.specs.Prelude.{◌≡◌, ℕ, ◌+◌, ◌-◌, ◌^◌, ◌≤◌, ◌<◌, min, length, get_or, not, eqb, ltb};
 ghost use Rattle.scan.specs.Scan.{both as both_of, either as either_of, lower as lower_of, digit_of, in_class, is_blank, blank_at, blank_before, span_to, back_to, trim_start, trim_end, past as past_to, opened as opened_by, closing_to, Place};
 ghost use Rattle.scan.specs.Inner.{Passed};
 ghost use Rattle.scan.specs.declared.Class.TheVariants.{Digit, Letter, Not, Below};
 
 // A class of bytes: the digits of a radix up to 16, the ASCII letters, one byte, all but one, either of two, neither of two, those below one.
-#[derive(Drop)]
+#[derive(Clone, Copy, Drop)]
 pub enum Class {
     Digit(u8),
     Letter,

@@ -1,14 +1,15 @@
 // The render state at an instant: the Rust's RenderState less `transform`. Its fields stand in groups, each with its own name.
+#![tactic(auto)]
 ghost use Rattle.std.specs.Prelude.{◌≡◌};
 ghost use Rattle.state.specs.State.{identity as no_override};
 
-#[derive(Drop)]
+#[derive(Clone, Copy, Drop)]
 pub struct Pair {
     pub x: f32,
     pub y: f32,
 }
 
-#[derive(Drop)]
+#[derive(Clone, Copy, Drop)]
 pub struct ClipRect {
     pub x1: f32,
     pub y1: f32,
@@ -16,87 +17,87 @@ pub struct ClipRect {
     pub y2: f32,
 }
 
-#[derive(Drop)]
+#[derive(Clone, Copy, Drop)]
 pub struct Rgb {
     pub red: u8,
     pub green: u8,
     pub blue: u8,
 }
 
-#[derive(Drop)]
+#[derive(Clone, Copy, Drop)]
 pub struct Part {
     pub offset: u32,
     pub size: u32,
 }
 
-#[derive(Drop)]
+#[derive(Clone, Copy, Drop)]
 pub struct Name {
     pub letters: Part,
     pub parameter: Part,
 }
 
-#[derive(Drop)]
+#[derive(Clone, Copy, Drop)]
 pub enum OptF32 {
     None,
     Some(f32),
 }
 
-#[derive(Drop)]
+#[derive(Clone, Copy, Drop)]
 pub enum OptPair {
     None,
     Some(Pair),
 }
 
-#[derive(Drop)]
+#[derive(Clone, Copy, Drop)]
 pub enum OptRect {
     None,
     Some(ClipRect),
 }
 
-#[derive(Drop)]
+#[derive(Clone, Copy, Drop)]
 pub enum OptRgb {
     None,
     Some(Rgb),
 }
 
-#[derive(Drop)]
+#[derive(Clone, Copy, Drop)]
 pub enum OptU8 {
     None,
     Some(u8),
 }
 
-#[derive(Drop)]
+#[derive(Clone, Copy, Drop)]
 pub enum OptU16 {
     None,
     Some(u16),
 }
 
-#[derive(Drop)]
+#[derive(Clone, Copy, Drop)]
 pub enum OptI32 {
     None,
     Some(i32),
 }
 
-#[derive(Drop)]
+#[derive(Clone, Copy, Drop)]
 pub enum OptBool {
     None,
     Some(bool),
 }
 
-#[derive(Drop)]
+#[derive(Clone, Copy, Drop)]
 pub enum OptPart {
     None,
     Some(Part),
 }
 
-#[derive(Drop)]
+#[derive(Clone, Copy, Drop)]
 pub enum OptName {
     None,
     Some(Name),
 }
 
 // `Option<Option<String>>`
-#[derive(Drop)]
+#[derive(Clone, Copy, Drop)]
 pub enum OptReset {
     None,
     Plain,
@@ -105,63 +106,63 @@ pub enum OptReset {
 
 // An option as a field: a struct, since a field that is an enum is not stored to.
 // For the compiler (MEASURED, Shapes for the compiler): an option is an enum in a struct.
-#[derive(Drop)]
+#[derive(Clone, Copy, Drop)]
 pub struct MaybeF32 {
     pub is: OptF32,
 }
 
-#[derive(Drop)]
+#[derive(Clone, Copy, Drop)]
 pub struct MaybePair {
     pub is: OptPair,
 }
 
-#[derive(Drop)]
+#[derive(Clone, Copy, Drop)]
 pub struct MaybeRect {
     pub is: OptRect,
 }
 
-#[derive(Drop)]
+#[derive(Clone, Copy, Drop)]
 pub struct MaybeRgb {
     pub is: OptRgb,
 }
 
-#[derive(Drop)]
+#[derive(Clone, Copy, Drop)]
 pub struct MaybeU8 {
     pub is: OptU8,
 }
 
-#[derive(Drop)]
+#[derive(Clone, Copy, Drop)]
 pub struct MaybeU16 {
     pub is: OptU16,
 }
 
-#[derive(Drop)]
+#[derive(Clone, Copy, Drop)]
 pub struct MaybeI32 {
     pub is: OptI32,
 }
 
-#[derive(Drop)]
+#[derive(Clone, Copy, Drop)]
 pub struct MaybeBool {
     pub is: OptBool,
 }
 
-#[derive(Drop)]
+#[derive(Clone, Copy, Drop)]
 pub struct MaybePart {
     pub is: OptPart,
 }
 
-#[derive(Drop)]
+#[derive(Clone, Copy, Drop)]
 pub struct MaybeName {
     pub is: OptName,
 }
 
-#[derive(Drop)]
+#[derive(Clone, Copy, Drop)]
 pub struct MaybeReset {
     pub is: OptReset,
 }
 
 // What every state has.
-#[derive(Drop)]
+#[derive(Clone, Copy, Drop)]
 pub struct Always {
     pub alpha_mul: f32,
     pub rotate_radians: f32,
@@ -173,27 +174,27 @@ pub struct Always {
     pub shear: Pair,
 }
 
-#[derive(Drop)]
+#[derive(Clone, Copy, Drop)]
 pub struct Places {
     pub translate: MaybePair,
     pub border: MaybePair,
     pub shadow: MaybePair,
 }
 
-#[derive(Drop)]
+#[derive(Clone, Copy, Drop)]
 pub struct Clips {
     pub clip_rect: MaybeRect,
     pub iclip_rect: MaybeRect,
 }
 
-#[derive(Drop)]
+#[derive(Clone, Copy, Drop)]
 pub struct Sizes {
     pub font_size: MaybeF32,
     pub letter_spacing: MaybeF32,
     pub drawing_baseline_offset: MaybeI32,
 }
 
-#[derive(Drop)]
+#[derive(Clone, Copy, Drop)]
 pub struct Colors {
     pub primary_color: MaybeRgb,
     pub secondary_color: MaybeRgb,
@@ -201,7 +202,7 @@ pub struct Colors {
     pub shadow_color: MaybeRgb,
 }
 
-#[derive(Drop)]
+#[derive(Clone, Copy, Drop)]
 pub struct Alphas {
     pub primary_alpha: MaybeU8,
     pub secondary_alpha: MaybeU8,
@@ -209,7 +210,7 @@ pub struct Alphas {
     pub shadow_alpha: MaybeU8,
 }
 
-#[derive(Drop)]
+#[derive(Clone, Copy, Drop)]
 pub struct Line {
     pub pivot: MaybePair,
     pub clip_drawing: MaybePart,
@@ -220,7 +221,7 @@ pub struct Line {
     pub drawing_scale: MaybeU8,
 }
 
-#[derive(Drop)]
+#[derive(Clone, Copy, Drop)]
 pub struct Font {
     pub font_name: MaybeName,
     pub font_encoding: MaybeU8,
@@ -230,7 +231,7 @@ pub struct Font {
     pub strikeout: MaybeBool,
 }
 
-#[derive(Drop)]
+#[derive(Clone, Copy, Drop)]
 pub struct RenderState {
     pub always: Always,
     pub places: Places,

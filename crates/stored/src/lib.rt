@@ -1,9 +1,10 @@
 // Lines of a stored list: each names a call and gives its words and its text, in hexadecimal.
+#![tactic(auto)]
 ghost use Rattle.std.specs.Prelude.{◌≡◌, ◌+◌, ◌*◌, ◌≤◌, length, get_or};
 ghost use Rattle.io.specs.Counts.{IsPrefixLen};
 
 // A line taken apart: the letter of its call, 0 where the line has another form; the letter of the leaf, for L; how many words and how many bytes of text it has.
-#[derive(Drop)]
+#[derive(Clone, Copy, Drop)]
 pub struct Line {
     pub call: u8,
     pub leaf: u8,

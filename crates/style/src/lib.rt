@@ -1,10 +1,11 @@
 // The style in force: the name that \r gave, a part of the block, or else the line's own name.
+#![tactic(auto)]
 ghost use Rattle.std.specs.Prelude.{◌≡◌, false};
 ghost use Rattle.refusal.specs.declared.Checked.TheVariants.{Good};
 ghost use Rattle.style.specs.Style.{lower_ground, texts_ground, place, refused, given_name, named, style_in, InItsText, IsName, InForce};
 
 // The style in force by places: a ground that stands against it, whether it is a part of the block, and where it begins and ends.
-#[derive(Drop)]
+#[derive(Clone, Copy, Drop)]
 pub struct Place {
     pub checked: refusal::Checked,
     pub of_block: bool,
@@ -120,7 +121,7 @@ fn part_at<'a>(p: Place, block: &'a [u8], own: &'a [u8]) -> &'a [u8]
 }
 
 // The style in force: the part itself, and its place.
-#[derive(Drop)]
+#[derive(Clone, Copy, Drop)]
 pub struct StyleName<'a> {
     pub name: &'a [u8],
     pub place: Place,

@@ -1,9 +1,10 @@
 // A table record and how it is written.
+#![tactic(auto)]
 ghost use Rattle.std.specs.Prelude.{◌≡◌, [], ◌∷◌};
 ghost use Rattle.tag.specs.Table.{laid};
 
 // 01, A table record: the kind, then seven words.
-#[derive(Drop)]
+#[derive(Clone, Copy, Drop)]
 pub struct Record {
     pub kind: u32,
     pub w1: u32,
@@ -16,7 +17,7 @@ pub struct Record {
 }
 
 // Which of the \k tags: \k, \kf and \K, \ko.
-#[derive(Drop)]
+#[derive(Clone, Copy, Drop)]
 pub enum KaraokeKind {
     Fill,
     Sweep,
@@ -24,7 +25,7 @@ pub enum KaraokeKind {
 }
 
 // Centiseconds, in which a karaoke tag counts: never taken for milliseconds.
-#[derive(Drop)]
+#[derive(Clone, Copy, Drop)]
 pub struct Cs(pub u32);
 
 // Writes a record at the front of the table, where there is room for it.

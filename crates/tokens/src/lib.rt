@@ -1,4 +1,5 @@
 // The tokens of a drawing's text: what stands between its blanks.
+#![tactic(auto)]
 ghost use Rattle.std.specs.Prelude.{◌≡◌, true, ◌≤◌, ◌<◌, length};
 ghost use Rattle.tokens.specs.Tokens.{spells as spells_at, special as special_at, one_letter, token_of, token_end, is_letter, from as tokens_from, tail, tokens_ground};
 ghost use Rattle.tokens.specs.Inner.{Follows, Skips, rate_of, letter_weight, Light, Straight};
@@ -6,7 +7,7 @@ ghost use Rattle.tokens.specs.Inner.{Follows, Skips, rate_of, letter_weight, Lig
 use refusal::{Checked, Refusal};
 
 // A token: a single ASCII letter, a number, a numeral that is refused with the place of its first byte, or anything else.
-#[derive(Drop)]
+#[derive(Clone, Copy, Drop)]
 pub enum Token {
     Letter(u8),
     Number(f32),
@@ -15,7 +16,7 @@ pub enum Token {
 }
 
 // The token behind a place, with the place where it ends.
-#[derive(Drop)]
+#[derive(Clone, Copy, Drop)]
 pub enum Next {
     End,
     Is(Token, usize),
