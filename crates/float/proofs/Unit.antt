@@ -4,7 +4,7 @@ use Rattle.std.proofs.Common.{◌≡◌, ℕ, zero, suc, ◌+◌, ◌-◌, ◌*�
 use native.Mathlib.Nat.{mul-sub, mul-mul-mul_comm}
 use native.Mathlib.Decide.{dec_le}
 use lib.Ieee.{Float, nan, inf, fin, binary32, up, down, unlike, round, neg, sum, add, sub, mul, div, le, lt, fits, of_int, size, to_bits}
-use lib.Ieee.Fits.{up_pos, down_pos, round_fits, kept-lt}
+use lib.Ieee.Fits.{up_pos, down_pos, round-fits, kept-lt}
 use lib.Ieee.Digits.{size-le}
 use lib.Ieee.Exact.{HasValue, round_exact}
 use lib.Ieee.Order.{round_mono, transfer, le_of_values}
@@ -62,7 +62,7 @@ unit-one = record { size = 2 ^ 149; value = one_value; high = le_refl (2 ^ 149);
 unit_round : (a c : ℕ) → 0 < c → a * 2 ^ 149 ≤ (2 ^ 149 + 2 ^ 125) * c → Unit (round binary32 false a c)
 unfolding le
 unit_round a c C h =
-    go (round binary32 false a c) (round_up binary32 a c) (round_fits binary32 false a c)
+    go (round binary32 false a c) (round_up binary32 a c) (round-fits binary32 false a c)
     (subst (λ (z : Float). T (le (round binary32 false a c) z)) tie-is (round_mono binary32 a c (2 ^ 149 + 2 ^ 125) (2 ^ 149) C (pow_pos 149) h))
   where
     go : (x : Float) → T (unsigned x) → T (fits binary32 x) → T (le x one) → Unit x

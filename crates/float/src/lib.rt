@@ -1,5 +1,6 @@
 // Helpers on f32: casts to and from whole numbers and words, bounds, interpolation, radians.
 #![tactic(auto)]
+
 ghost use Rattle.std.specs.Prelude.{◌≡◌, ◌*◌, ◌/◌, ◌^◌, ◌<◌, ◌≤◌, min, T, pos, neg_ℤ};
 ghost use Rattle.std.specs.Float.Ieee as Ieee;
 ghost use Rattle.std.specs.Float.{binary32};

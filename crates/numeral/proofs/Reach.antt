@@ -8,7 +8,7 @@ use lib.Dec.{T, ltb, leb, eqb, lit<}
 use lib.IntN.{ℤ}
 use lib.Ieee.{Float, binary32, to_bits, of_bits}
 use lib.Ieee.Bits.{to_bits-lt, of_bits-to_bits}
-use lib.Ieee.Fits.{round_fits}
+use lib.Ieee.Fits.{round-fits}
 use borrow.Author.Tests.{leb-true}
 use Rattle.scan.specs.Scan.{pick, past}
 use Rattle.scan.proofs.Laws.{picked}
@@ -41,7 +41,7 @@ module _ (s : List ℕ) (a b : ℕ) where
       let f = d.end - d.fraction in
       let tens = 10 ^ behind f x in
       let v = digits_of s d * 10 ^ zeros f x in
-      let g = round_fits binary32 minus v tens in
+      let g = round-fits binary32 minus v tens in
       record {
         reach = in_reach minus v tens (one-le-pow (behind f x) 10 (lit< tt)) (le_of_lt (shift_below (digits_of s d) (d.whole - d.from) f x (digits-below s a b d refl) n));
         word = to_bits-lt binary32 (float_of s a b d x) g;

@@ -1,6 +1,6 @@
 -- What the readers say of the table, put together.
 use mathlib.Core.Path.{◌≡◌, refl, sym, ap, subst, ◌∙◌}
-use mathlib.Core.List.{List, [], ◌∷◌, ◌++◌, append_nil}
+use mathlib.Core.List.{List, [], ◌∷◌, ◌++◌, append-nil}
 use Prim.Native.Nat.{ℕ, zero, suc, ◌+◌, ◌-◌, ◌*◌, ◌≤◌, min}
 use native.Mathlib.Omega.{arith}
 use native.Mathlib.Nat.{zero-min}
@@ -127,7 +127,7 @@ module _ (d : ℕ) (s : List ℕ) (p q : ℕ) (t : List ℕ) (l : Peeled) (o r :
       let cn : count (and (T (head_times w.heads) (head_accel w.heads) i.tags) Tags.none) ≡ kept_tags i + 1 = omega (arith, count-and (T (head_times w.heads) (head_accel w.heads) i.tags) Tags.none, count_none) in
       record {
         out = f ∙ ap (λ (y : Seen). around_out l.long y) a2.out ∙ rw (t-more d s p q h, cn, g.long);
-        table = rw (t-more d s p q h, append_nil (encode i.tags), ← y) z;
+        table = rw (t-more d s p q h, append-nil (encode i.tags), ← y) z;
         few = omega (arith, a.few, g.low);
       }
 

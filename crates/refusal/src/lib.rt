@@ -1,5 +1,6 @@
 // 01, Grounds for turning a call down.
 #![tactic(auto)]
+
 ghost use Rattle.std.specs.Prelude.{◌≡◌, ◌≤◌};
 ghost use Rattle.refusal.specs.Refusal.{number_of, place_of, text_ground};
 ghost use Rattle.refusal.specs.Answer.{first_ground};

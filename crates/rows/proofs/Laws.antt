@@ -1,6 +1,6 @@
 -- A table of rows, at any width.
 use mathlib.Core.Path.{◌≡◌, refl, sym, ap, ◌∙◌}
-use mathlib.Core.List.{List, [], ◌∷◌, ◌++◌, append_assoc, append_nil}
+use mathlib.Core.List.{List, [], ◌∷◌, ◌++◌, append_assoc, append-nil}
 use mathlib.Core.Logic.{⊎_elim}
 use lib.Seq.{sets, sets-eq, take_all, drop-length, drop-drop, length-take-le, drop_at, take-append-add, drop-append-add}
 use Prim.Native.Nat.{ℕ, ◌+◌, ◌-◌, ◌*◌, ◌≤◌, ◌<◌, min}
@@ -17,7 +17,7 @@ rest-is a t = take_all (length t - a) (drop a t) (omega (arith, length-drop a t)
 pub rest_back : (a : ℕ) (t u : List ℕ) → a ≤ length t → take a t ++ (u ++ drop (length t - a) (drop a t)) ≡ take a t ++ u
 rest_back a t u h =
     let z : a + (length t - a) ≡ length t = omega arith in
-    simp (drop-drop, z, drop-length, append_nil)
+    simp (drop-drop, z, drop-length, append-nil)
 
 module _ {A : Type 0} (w : ℕ) (words : A → List ℕ) where
   abbrev laid : List ℕ → List A → List ℕ
@@ -86,7 +86,7 @@ module _ {A : Type 0} (w : ℕ) (words : A → List ℕ) where
         let z : k ≡ length t = omega arith in
         let a : take k t ≡ t = take_all k t (omega arith) in
         let b : drop k t ≡ [] = ap (λ (n : ℕ). drop n t) z ∙ drop-length t in
-        rw (a, b, laid_none o rs, append_nil t, laid-short t (r ∷ []) h, laid-short t (r ∷ rs) h))
+        rw (a, b, laid_none o rs, append-nil t, laid-short t (r ∷ []) h, laid-short t (r ∷ rs) h))
         (le_or_lt w (length t))
 
     -- rows g more are in the table, which has n

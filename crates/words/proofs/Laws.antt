@@ -1,6 +1,6 @@
 -- Words stored one after the other, joined.
 use mathlib.Core.Path.{◌≡◌, refl, sym, ap, ◌∙◌}
-use mathlib.Core.List.{List, [], ◌∷◌, ◌++◌, append_nil, append_assoc}
+use mathlib.Core.List.{List, [], ◌∷◌, ◌++◌, append-nil, append_assoc}
 use Prim.Native.Nat.{ℕ, zero, suc, ◌+◌, ◌-◌, ◌≤◌}
 use native.Mathlib.Numerals.{add-one}
 use native.Mathlib.Nat.{add-suc}
@@ -186,7 +186,7 @@ unfolding put_at
 over t ws u h e =
     let l : 0 + length ws ≤ length t = omega arith in
     let z : 0 + length ws ≡ length t = omega arith in
-    e ∙ sets-eq ws t 0 l ∙ rw (z, drop-length t, append_nil ws)
+    e ∙ sets-eq ws t 0 l ∙ rw (z, drop-length t, append-nil ws)
 
 -- the four parts over 92 words
 pub whole : (v a b c u : List ℕ) (st : RenderState) → length v ≡ 92 →
