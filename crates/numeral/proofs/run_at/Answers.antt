@@ -9,8 +9,7 @@ use Rattle.scan.proofs.Laws.{span-end, span-stop, span_go, digit-decimal}
 use Rattle.numeral.specs.Numeral.{value, is_digit}
 use Rattle.numeral.proofs.Laws.{value-end, value_go, no_digit_below, no_digit_above, digit_between_is, run_below, run_nine}
 use borrow.Author.Rules.{rules}
-use Rattle.numeral.proofs.run_at.Statement.{statement}
-use Rattle.numeral.proofs.run_at.Tie as tie
+use Rattle.numeral.proofs.run_at.Goals as goal
 
 -- a run of digits so far: up to i, with the number a
 abbrev So-far : List ℕ → ℕ → ℕ → ℕ → ℕ → ℕ → ℕ → Type 0
@@ -24,10 +23,8 @@ Ran s from to start i a = Place from to (span_to is_digit s from to) i × (a < (
 module _ (s : List ℕ) (from to start stop i a : ℕ) (q : stop ≡ min to (from + 9)) (inv : So-far s from to start stop i a) where
   few : a < (start + 1) * 1000000000
   few = lt_of_lt_of_le inv.3 (run_nine start (i - from) (omega arith))
-
   stopped : span_to is_digit s i to ≡ i → Ran s from to start i a
   stopped e = (record { is = sym (inv.2 ∙ e); low = inv.0; high = omega arith }, few, λ h. sym (inv.4 i (le_refl i) ∙ value-end 10 s i i a (le_refl i)))
-
   -- more than nine digits: the rest is passed over
   passed : (k : ℕ) → stop ≤ i → i < to → Place i to (span_to is_digit s i to) k → Ran s from to start k a
   passed k l m p = (
@@ -36,12 +33,10 @@ module _ (s : List ℕ) (from to start stop i a : ℕ) (q : stop ≡ min to (fro
     λ h. let e : k ≡ i = omega (arith, p.low) in
         sym (ap (λ (j : ℕ). value 10 s (j - from) from start) e ∙ inv.4 i (le_refl i) ∙ value-end 10 s i i a (le_refl i)),
   )
-
   -- one digit more
   module _ (b : ℕ) (e : b ≡ get_or s i 0) (l : i < stop) (lo : 48 ≤ b) (hi : b ≤ 57) where
     step-low : a * 10 + (b - 48) < (start + 1) * 1000000000
     step-low = lt_of_lt_of_le (run_below start a (b - 48) (i - from) inv.3 (omega arith)) (run_nine start (i - from + 1) (omega arith))
-
     more : So-far s from to start stop (i + 1) (a * 10 + (b - 48))
     more =
         let z : i - from + 1 ≡ i + 1 - from = omega arith in (
@@ -52,64 +47,44 @@ module _ (s : List ℕ) (from to start stop i a : ℕ) (q : stop ≡ min to (fro
           λ j h. inv.4 j (omega arith) ∙ value_go 10 s i j a (omega arith) ∙ rw (← e, ← digit-decimal b lo hi),
         )
 
-abbrev invariant-loop : tie.invariant-loop
-invariant-loop text from to start stop i₀ a₀ i a = So-far text from to start stop i a
-
-abbrev decreases-loop : tie.decreases-loop
-decreases-loop text from to start stop i₀ a₀ i a = stop - i
-
-loop-holds : tie.Need-loop-init invariant-loop decreases-loop
-loop-holds c =
-    let a = c.before.before.args in
+pub loop-i-init : goal.loop-i-init
+loop-i-init c =
+    let a = c.args in
     let z : a.from - a.from ≡ 0 = omega arith in
-    (le_refl a.from, omega (arith, c.nine-on.ensures), refl, rw (z, pow-zero) (omega arith), λ j h. refl)
+    (le_refl a.from, omega (arith, c.nine_on-stop.ensures), refl, rw (z, pow-zero) (omega arith), λ j h. refl)
 
-returns : tie.Need-returns invariant-loop decreases-loop
-returns c =
+pub returns-then-b-lt48 : goal.returns-then-b-lt48
+returns-then-b-lt48 c =
     let l = c.before.before.before.before in
-    stopped _ _ _ _ _ _ _ l.before.nine-on.ensures l.loop.invariant (span-stop is_digit _ _ _ (omega arith) (ap is_digit (sym c.before.wide.ensures) ∙ no_digit_below _ c.if1.true))
+    stopped _ _ _ _ _ _ _ l.nine_on-stop.ensures l.loop-i.invariant (span-stop is_digit _ _ _ (omega arith) (ap is_digit (sym c.wide-b.ensures) ∙ no_digit_below _ c.if-b-lt48.true))
 
-returns-2 : tie.Need-returns-2 invariant-loop decreases-loop
-returns-2 c =
+pub returns-then-b-gt57 : goal.returns-then-b-gt57
+returns-then-b-gt57 c =
     let l = c.before.before.before.before.before in
-    stopped _ _ _ _ _ _ _ l.before.nine-on.ensures l.loop.invariant (span-stop is_digit _ _ _ (omega arith) (ap is_digit (sym c.before.before.wide.ensures) ∙ no_digit_above _ c.if2.true))
+    stopped _ _ _ _ _ _ _ l.nine_on-stop.ensures l.loop-i.invariant (span-stop is_digit _ _ _ (omega arith) (ap is_digit (sym c.wide-b.ensures) ∙ no_digit_above _ c.if-b-gt57.true))
 
-mul-a : tie.Need-overflow-mul-a invariant-loop decreases-loop
-mul-a c =
+pub overflow_mul-a : goal.overflow_mul-a
+overflow_mul-a c =
     let l = c.before.before.before.before.before in
-    omega (arith, step-low _ _ _ _ _ _ _ l.before.nine-on.ensures l.loop.invariant _ c.before.before.wide.ensures (omega arith) (omega arith) (omega arith))
+    omega (arith, step-low _ _ _ _ _ _ _ l.nine_on-stop.ensures l.loop-i.invariant _ c.wide-b.ensures (omega arith) (omega arith) (omega arith))
 
-add_a : tie.Need-overflow-add-a invariant-loop decreases-loop
-add_a c =
+pub overflow_add-a : goal.overflow_add-a
+overflow_add-a c =
     let l = c.before.before.before.before.before in
-    omega (arith, step-low _ _ _ _ _ _ _ l.before.nine-on.ensures l.loop.invariant _ c.before.before.wide.ensures (omega arith) (omega arith) (omega arith))
+    omega (arith, step-low _ _ _ _ _ _ _ l.nine_on-stop.ensures l.loop-i.invariant _ c.wide-b.ensures (omega arith) (omega arith) (omega arith))
 
-loop-again : tie.Need-loop-preserved invariant-loop decreases-loop
-loop-again c =
+pub loop-i-preserved : goal.loop-i-preserved
+loop-i-preserved c =
     let l = c.before.before.before.before.before in
-    let z : l.loop.a * 10 + c.before.before.wide.result - 48 ≡ l.loop.a * 10 + (c.before.before.wide.result - 48) = omega arith in
-    rw z (more _ _ _ _ _ _ _ l.before.nine-on.ensures l.loop.invariant _ c.before.before.wide.ensures (omega arith) (omega arith) (omega arith))
+    let z : l.loop-i.a * 10 + c.wide-b.result - 48 ≡ l.loop-i.a * 10 + (c.wide-b.result - 48) = omega arith in
+    rw z (more _ _ _ _ _ _ _ l.nine_on-stop.ensures l.loop-i.invariant _ c.wide-b.ensures (omega arith) (omega arith) (omega arith))
 
-returns-3 : tie.Need-returns-3 invariant-loop decreases-loop
-returns-3 c =
+pub returns-then-i-to : goal.returns-then-i-to
+returns-then-i-to c =
     let l = c.before.before.before in
-    passed _ _ _ _ _ _ _ l.before.nine-on.ensures l.loop.invariant _ (omega arith) (omega arith) c.span.ensures
+    passed _ _ _ _ _ _ _ l.nine_on-stop.ensures l.loop-i.invariant _ (omega arith) (omega arith) c.span.ensures
 
-returns-4 : tie.Need-returns-4 invariant-loop decreases-loop
-returns-4 c =
+pub returns : goal.returns
+returns c =
     let l = c.before.before in
-    stopped _ _ _ _ _ _ _ l.before.nine-on.ensures l.loop.invariant (span-end is_digit _ _ _ (omega arith))
-
-pub run-at-spec : {M : Type 1} → statement M
-run-at-spec =
-    tie.close
-    (tie.spec
-    invariant-loop decreases-loop
-    (λ c κs. search rules)
-    loop-holds
-    (λ c. search rules) (λ c κs. search rules)
-    returns returns-2 mul-a add_a
-    (λ c. search rules) (λ c. search rules) (λ c. search rules)
-    loop-again
-    (λ c κs. search rules)
-    returns-3 returns-4)
+    stopped _ _ _ _ _ _ _ l.nine_on-stop.ensures l.loop-i.invariant (span-end is_digit _ _ _ (omega arith))

@@ -1,0 +1,16 @@
+use Prim.Native.Nat.{◌-◌, ◌≤◌, min}
+use mathlib.Core.Path.{◌≡◌, sym, ap, ◌∙◌}
+use native.Mathlib.Omega.{arith}
+use native.Mathlib.Nat.{min-eq_right}
+use lib.Dec.{lit≤}
+use lib.ListN.{get_or}
+use borrow.Author.Rules.{rules}
+use Rattle.numeral.specs.Numeral.{value, most}
+use Rattle.numeral.proofs.Laws.{digit-most, step_fits, value_turn, value-end}
+use Rattle.numeral.proofs.value.Given as goal
+
+abbrev pub invariant-loop-i : goal.invariant-loop-i
+invariant-loop-i l = (l.from ≤ l.i) × (l.i ≤ l.to) × (l.a ≤ most) × (min most (value l.radix l.text (l.to - l.from) l.from l.start) ≡ min most (value l.radix l.text (l.to - l.i) l.i l.a))
+
+abbrev pub decreases-loop-i : goal.decreases-loop-i
+decreases-loop-i l = l.to - l.i
