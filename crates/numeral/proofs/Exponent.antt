@@ -1,21 +1,20 @@
 -- 02, N4: a numeral with its point shifted. How large it is, and that written out it is its digits times a power of ten.
 use mathlib.Core.Path.{◌≡◌, refl, sym, ap, ◌∙◌}
 use mathlib.Core.List.{List}
-use mathlib.Core.Bool.{true, false}
 use Prim.Native.Nat.{ℕ, zero, suc, ◌+◌, ◌-◌, ◌*◌, ◌^◌, ◌≤◌, ◌<◌, min}
 use native.Mathlib.Nat.{le_trans, le_of_eq, lt_of_lt_of_le, lt_of_le_of_lt, mul-one, mul_assoc, mul-pos, mul-lt-mul_of_pos_right, mul-le-mul_right, mul-le-mul_left, min-eq_right, le_of_lt, one-le-pow, pow-le-pow_right}
 use native.Mathlib.Omega.{arith}
 use lib.Pow.{pow-add}
-use lib.Dec.{ltb, leb, lit<}
+use lib.Dec.{ltb, lit<}
 use lib.ListN.{get_or}
 use lib.IntN.{ℤ, pos, negsuc, neg_ℤ}
 use lib.Ieee.{Float, binary32, to_bits}
 use lib.Ieee.Scale.{round_same}
 use borrow.Author.Tests.{le-leb, lt-leb}
-use Rattle.scan.specs.Scan.{pick, past}
+use Rattle.scan.specs.Scan.{past}
 use Rattle.numeral.specs.declared.Decimal.{Decimal}
 use Rattle.numeral.specs.declared.Numeral.TheVariants.{Word}
-use Rattle.numeral.specs.Numeral.{is_sign, is_minus, is_e, most, value, split_at, digit_count, digits_of, before, behind, zeros, written_out, times_power, nearest, float_of, power_float_of, limited, signed, exponent_start, exponent_of, with_exponent, F32, word_of_f32}
+use Rattle.numeral.specs.Numeral.{is_sign, is_minus, is_e, most, value, split_at, digit_count, digits_of, before, behind, zeros, written_out, times_power, nearest, float_of, power_float_of, limited, signed, exponent_of, with_exponent, F32, word_of_f32}
 use Rattle.numeral.specs.Inner.{Counted}
 use Rattle.numeral.proofs.Laws.{value_grows, digit-most, digits-below}
 

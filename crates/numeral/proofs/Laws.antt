@@ -19,7 +19,7 @@ use Rattle.scan.proofs.Laws.{le_or_lt, more, none, span-low, digit-below, digit-
 use Rattle.float.specs.Float.{to_word}
 use Rattle.numeral.specs.declared.Numeral.TheVariants.{No, Word}
 use Rattle.numeral.specs.declared.Decimal.{Decimal}
-use Rattle.numeral.specs.Numeral.{is_digit, is_sign, is_minus, is_plus, value, most, whole_number, word_of_i32, I32, i32_of, up_to, hex_at, split_at, exponent_at, F32, digits_of, before, behind, float_of, limited, exponent_start, exponent_of, with_exponent, ends_at, f32_of}
+use Rattle.numeral.specs.Numeral.{is_digit, is_sign, is_minus, is_plus, value, most, whole_number, word_of_i32, I32, i32_of, up_to, hex_at, split_at, F32, digits_of, before, behind, float_of, limited, exponent_start, exponent_of, with_exponent, ends_at, f32_of}
 
 -- a digit's value, or 16
 pub digit-most : (b : ℕ) → digit_of b ≤ 16

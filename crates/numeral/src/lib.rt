@@ -1,5 +1,6 @@
 // Numbers as text writes them: numerals, whole numbers, hexadecimal.
 #![tactic(auto)]
+
 ghost use Rattle.std.specs.Prelude.{◌≡◌, ◌+◌, ◌-◌, ◌*◌, ◌^◌, ◌≤◌, ◌<◌, min, length};
 ghost use Rattle.scan.specs.Scan.{span_to, Place};
 ghost use Rattle.std.specs.Float.{binary32};

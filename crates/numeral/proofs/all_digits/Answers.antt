@@ -1,4 +1,3 @@
-use borrow.Author.Rules.{rules}
 use Rattle.numeral.proofs.all_digits.Goals as goal
 
 pub returns-then-f-le9 : goal.returns-then-f-le9

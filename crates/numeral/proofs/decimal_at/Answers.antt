@@ -1,6 +1,5 @@
 use mathlib.Core.Path.{◌∙◌}
 use Rattle.numeral.specs.Numeral.{split_at}
-use borrow.Author.Rules.{rules}
 use Rattle.numeral.proofs.decimal_at.Goals as goal
 
 pub returns : goal.returns

@@ -1,4 +1,3 @@
-use borrow.Author.Rules.{rules}
 use Rattle.numeral.proofs.decimal_word.Goals as goal
 
 pub returns : goal.returns

@@ -1,6 +1,5 @@
 use borrow.Author.Tests.{lt-ltb, le-ltb}
 use Rattle.numeral.specs.Numeral.{exponent_at}
-use borrow.Author.Rules.{rules}
 use Rattle.numeral.proofs.exponent_at.Goals as goal
 
 pub returns-then-d-b : goal.returns-then-d-b

@@ -1,6 +1,5 @@
 use mathlib.Core.Path.{◌∙◌}
 use Rattle.numeral.proofs.Laws.{hex_is}
-use borrow.Author.Rules.{rules}
 use Rattle.numeral.proofs.hex_at.Goals as goal
 
 pub returns : goal.returns

@@ -1,5 +1,4 @@
 use Rattle.numeral.proofs.Laws.{i32_plus, i32_zero, i32_minus, i32_far}
-use borrow.Author.Rules.{rules}
 use Rattle.numeral.proofs.i32_at.Goals as goal
 
 pub returns-then-past-a : goal.returns-then-past-a

@@ -8,7 +8,6 @@ use Rattle.scan.specs.Scan.{span_to, Place}
 use Rattle.scan.proofs.Laws.{span-end, span-stop, span_go, digit-decimal}
 use Rattle.numeral.specs.Numeral.{value, is_digit}
 use Rattle.numeral.proofs.Laws.{value-end, value_go, no_digit_below, no_digit_above, digit_between_is, run_below, run_nine}
-use borrow.Author.Rules.{rules}
 use Rattle.numeral.proofs.run_at.Goals as goal
 
 -- a run of digits so far: up to i, with the number a
@@ -23,8 +22,10 @@ Ran s from to start i a = Place from to (span_to is_digit s from to) i × (a < (
 module _ (s : List ℕ) (from to start stop i a : ℕ) (q : stop ≡ min to (from + 9)) (inv : So-far s from to start stop i a) where
   few : a < (start + 1) * 1000000000
   few = lt_of_lt_of_le inv.3 (run_nine start (i - from) (omega arith))
+
   stopped : span_to is_digit s i to ≡ i → Ran s from to start i a
   stopped e = (record { is = sym (inv.2 ∙ e); low = inv.0; high = omega arith }, few, λ h. sym (inv.4 i (le_refl i) ∙ value-end 10 s i i a (le_refl i)))
+
   -- more than nine digits: the rest is passed over
   passed : (k : ℕ) → stop ≤ i → i < to → Place i to (span_to is_digit s i to) k → Ran s from to start k a
   passed k l m p = (
@@ -33,10 +34,12 @@ module _ (s : List ℕ) (from to start stop i a : ℕ) (q : stop ≡ min to (fro
     λ h. let e : k ≡ i = omega (arith, p.low) in
         sym (ap (λ (j : ℕ). value 10 s (j - from) from start) e ∙ inv.4 i (le_refl i) ∙ value-end 10 s i i a (le_refl i)),
   )
+
   -- one digit more
   module _ (b : ℕ) (e : b ≡ get_or s i 0) (l : i < stop) (lo : 48 ≤ b) (hi : b ≤ 57) where
     step-low : a * 10 + (b - 48) < (start + 1) * 1000000000
     step-low = lt_of_lt_of_le (run_below start a (b - 48) (i - from) inv.3 (omega arith)) (run_nine start (i - from + 1) (omega arith))
+
     more : So-far s from to start stop (i + 1) (a * 10 + (b - 48))
     more =
         let z : i - from + 1 ≡ i + 1 - from = omega arith in (

@@ -1,14 +1,8 @@
-use mathlib.Core.Path.{◌≡◌, refl, sym, ap, ◌∙◌}
+use mathlib.Core.Path.{◌≡◌}
 use mathlib.Core.List.{List}
-use Prim.Native.Nat.{ℕ, ◌+◌, ◌-◌, ◌*◌, ◌^◌, ◌<◌, ◌≤◌, min}
-use native.Mathlib.Nat.{le_refl, lt_of_lt_of_le, pow-zero}
-use native.Mathlib.Omega.{arith}
-use lib.ListN.{get_or}
-use Rattle.scan.specs.Scan.{span_to, Place}
-use Rattle.scan.proofs.Laws.{span-end, span-stop, span_go, digit-decimal}
+use Prim.Native.Nat.{ℕ, ◌+◌, ◌-◌, ◌*◌, ◌^◌, ◌<◌, ◌≤◌}
+use Rattle.scan.specs.Scan.{span_to}
 use Rattle.numeral.specs.Numeral.{value, is_digit}
-use Rattle.numeral.proofs.Laws.{value-end, value_go, no_digit_below, no_digit_above, digit_between_is, run_below, run_nine}
-use borrow.Author.Rules.{rules}
 use Rattle.numeral.proofs.run_at.Given as goal
 
 -- a run of digits so far: up to i, with the number a

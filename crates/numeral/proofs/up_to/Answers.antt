@@ -1,5 +1,4 @@
 use borrow.Author.Tests.{le-leb, lt-leb}
-use borrow.Author.Rules.{rules}
 use Rattle.numeral.proofs.up_to.Goals as goal
 
 pub returns-then-v-limit : goal.returns-then-v-limit

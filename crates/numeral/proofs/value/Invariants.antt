@@ -1,12 +1,6 @@
 use Prim.Native.Nat.{◌-◌, ◌≤◌, min}
-use mathlib.Core.Path.{◌≡◌, sym, ap, ◌∙◌}
-use native.Mathlib.Omega.{arith}
-use native.Mathlib.Nat.{min-eq_right}
-use lib.Dec.{lit≤}
-use lib.ListN.{get_or}
-use borrow.Author.Rules.{rules}
+use mathlib.Core.Path.{◌≡◌}
 use Rattle.numeral.specs.Numeral.{value, most}
-use Rattle.numeral.proofs.Laws.{digit-most, step_fits, value_turn, value-end}
 use Rattle.numeral.proofs.value.Given as goal
 
 abbrev pub invariant-loop-i : goal.invariant-loop-i

@@ -1,6 +1,5 @@
 use borrow.Author.Tests.{lt-ltb, le-ltb, eq-eqb, ne_eqb}
 use Rattle.numeral.specs.Numeral.{whole_number}
-use borrow.Author.Rules.{rules}
 use Rattle.numeral.proofs.whole_number.Goals as goal
 
 pub returns-then-span-to : goal.returns-then-span-to
