@@ -73,6 +73,7 @@ no-fault (more a l) (plain k n) (inner h f) = k h
 no-fault (more a l) (around {r = r} k g m n) (inner h f) = no-fault (all_take (holds r) l) m f
 no-fault (more a l) (plain k n) (behind h f) = k h
 no-fault (more a l) (around {r = r} k g m n) (behind h f) = no-fault (all_drop (holds r) l) n f
+no-fault {i = i} all n f = elim f [ ]
 
 -- ---- what no fault says
 

@@ -1,5 +1,6 @@
 // A table record and how it is written.
 #![tactic(auto)]
+
 ghost use Rattle.std.specs.Prelude.{◌≡◌, [], ◌∷◌};
 ghost use Rattle.tag.specs.Table.{laid};
 
