@@ -1,5 +1,6 @@
 // Whether a given table is well formed, and grounds 5 and 6.
 #![tactic(auto)]
+
 ghost use Rattle.std.specs.Prelude.{◌≡◌, ◌+◌, ◌-◌, ◌*◌, ◌<◌, eqb};
 ghost use Rattle.scan.specs.Scan.{both, within as within_of};
 ghost use Rattle.tag.specs.Range.{unused, float, range, time, weight, free, time_word, part_fits, times_fit, word_fits, in_range};

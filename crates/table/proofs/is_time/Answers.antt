@@ -1,0 +1,4 @@
+use Rattle.table.proofs.is_time.Goals as goal
+
+pub returns : goal.returns
+returns c = cc
