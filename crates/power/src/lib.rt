@@ -1,5 +1,6 @@
 // x to the power a, for 0 <= x <= 1: the whole part of a by repeated multiplication, and eight binary digits of its fraction by repeated square roots.
 #![tactic(auto)]
+
 ghost use Rattle.std.specs.Prelude.{◌≡◌, ◌/◌, ◌%◌, ◌^◌, ◌<◌, ◌≤◌, T};
 ghost use Rattle.std.specs.Float.Ieee as Ieee;
 ghost use Rattle.float.specs.Float.{zero, one};

@@ -1,4 +1,4 @@
-use Rattle.std.proofs.Common.{◌≡◌, ◌+◌, ◌*◌, ◌^◌, ◌<◌, ◌≤◌, refl, ◌∙◌, arith}
+use Rattle.std.proofs.Common.{◌+◌, ◌<◌, refl, ◌∙◌, arith}
 use Rattle.decimal.proofs.Law.{double}
 use Rattle.root.proofs.Law.{room, wide_of}
 use Rattle.root.proofs.lengthened.Goals as goal

@@ -1,6 +1,4 @@
-use Rattle.std.proofs.Common.{◌≡◌, ◌+◌, ◌*◌, ◌^◌, ◌<◌, ◌≤◌, refl, ◌∙◌, arith}
-use Rattle.decimal.proofs.Law.{double}
-use Rattle.root.proofs.Law.{room, wide_of}
+use Rattle.std.proofs.Common.{◌≡◌, ◌*◌, ◌^◌, ◌<◌, ◌≤◌}
 use Rattle.root.proofs.lengthened.Given as goal
 
 abbrev pub invariant-loop-m : goal.invariant-loop-m

@@ -1,4 +1,4 @@
-use Rattle.std.proofs.Common.{◌-◌, ◌^◌, ◌<◌, ◌≤◌, arith}
+use Rattle.std.proofs.Common.{◌-◌, ◌^◌, ◌≤◌, arith}
 use Rattle.root.proofs.Law.{square_mono, not-zero}
 use Rattle.root.proofs.lowered.Goals as goal
 use Rattle.root.proofs.lowered.Goals.{In-loop-r}

@@ -1,5 +1,4 @@
-use Rattle.std.proofs.Common.{◌-◌, ◌^◌, ◌<◌, ◌≤◌, arith}
-use Rattle.root.proofs.Law.{square_mono, not-zero}
+use Rattle.std.proofs.Common.{◌^◌, ◌<◌, ◌≤◌}
 use Rattle.root.proofs.lowered.Given as goal
 
 abbrev pub invariant-loop-r : goal.invariant-loop-r

@@ -1,4 +1,4 @@
-use Rattle.std.proofs.Common.{◌-◌, ◌^◌, arith, rules}
+use Rattle.std.proofs.Common.{◌-◌, ◌^◌, arith}
 use Rattle.root.proofs.Law.{square_mono}
 use Rattle.root.proofs.nearest_root.Goals as goal
 

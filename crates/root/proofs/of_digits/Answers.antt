@@ -1,4 +1,3 @@
-use Rattle.std.proofs.Common.{rules}
 use Rattle.root.proofs.Law.{part-bits, part_clean}
 use Rattle.root.proofs.of_digits.Goals as goal
 

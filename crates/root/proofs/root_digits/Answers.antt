@@ -1,4 +1,3 @@
-use Rattle.std.proofs.Common.{rules}
 use Rattle.root.proofs.Law.{part-root}
 use Rattle.root.proofs.root_digits.Goals as goal
 

@@ -1,10 +1,10 @@
-use Rattle.std.proofs.Common.{◌≡◌, ℕ, ◌+◌, ◌*◌, ◌/◌, ◌%◌, ◌^◌, ◌<◌, ◌≤◌, sym, ap, ◌∙◌, ⊎_elim, arith, rules}
+use Rattle.std.proofs.Common.{◌≡◌, ℕ, ◌+◌, ◌*◌, ◌/◌, ◌%◌, ◌^◌, ◌<◌, ◌≤◌, sym, ap, ◌∙◌, arith}
 use Rattle.decimal.proofs.Law.{of_bits_at, clean_at}
 use Rattle.root.specs.Root.{square}
 use Rattle.root.specs.Inner.{wide}
 use Rattle.root.proofs.Law.{even_power, odd_power, Rounded, rounded}
 use Rattle.root.proofs.root_of.Goals as goal
-use Rattle.root.proofs.root_of.Goals.{After-nearest_root-r, Joined-w-eq0}
+use Rattle.root.proofs.root_of.Goals.{After-nearest_root-r, Joined-w-eq0, then-w-eq0, else-w-eq0}
 
 -- what n is where the two arms meet
 scaled : (c : Joined-w-eq0) → (c.if-w-eq0.n * square (2 ^ ((c.args.w / 2 ^ 23 + 101) / 2)) ≡ wide c.args.w) × (2 ^ 46 ≤ c.if-w-eq0.n) × (c.if-w-eq0.n < 2 ^ 48)
@@ -12,10 +12,10 @@ scaled c =
     let w = c.args.w in
     let m = w % 2 ^ 23 + 2 ^ 23 in
     let u = w / 2 ^ 23 in
-    ⊎_elim
-    (λ h. (ap (λ (n : ℕ). n * square (2 ^ ((u + 101) / 2))) h.1 ∙ even_power m u h.0.taken, omega (arith, h.1), omega (arith, h.1)))
-    (λ h. (ap (λ (n : ℕ). n * square (2 ^ ((u + 101) / 2))) h.1 ∙ odd_power m u (omega (arith, h.0.left)), omega (arith, h.1), omega (arith, h.1)))
-    c.if-w-eq0.branch
+    elim c.if-w-eq0.branch [
+      | then-w-eq0 h ↦ (ap (λ (n : ℕ). n * square (2 ^ ((u + 101) / 2))) h.n-is ∙ even_power m u h.if-w-eq0.true, omega (arith, h.n-is), omega (arith, h.n-is))
+      | else-w-eq0 h ↦ (ap (λ (n : ℕ). n * square (2 ^ ((u + 101) / 2))) h.n-is ∙ odd_power m u (omega (arith, h.if-w-eq0.false)), omega (arith, h.n-is), omega (arith, h.n-is))
+    ]
 
 -- what r is
 near : (c : After-nearest_root-r) → Rounded (wide c.args.w) ((c.args.w / 2 ^ 23 + 101) / 2) c.nearest_root-r.result

@@ -1,11 +1,11 @@
-use Rattle.std.proofs.Common.{◌≡◌, ◌*◌, ◌^◌, ◌<◌, T, sym, ap, ◌∙◌, subst, ⊎_elim, arith}
+use Rattle.std.proofs.Common.{◌≡◌, ◌*◌, ◌^◌, ◌<◌, T, sym, ap, ◌∙◌, subst, arith}
 use lib.Ieee.{binary32, to_bits, fits}
 use Rattle.float.proofs.Bits.{not-nan, below_sign}
 use Rattle.root.specs.Root.{root_units, square_units}
 use Rattle.root.specs.Inner.{wide}
 use Rattle.root.proofs.Law.{start-high, small-value, some_bits, wide-bits, sqrt-is}
 use Rattle.root.proofs.sqrt_positive.Goals as goal
-use Rattle.root.proofs.sqrt_positive.Goals.{Joined-b-lt8388608, Start}
+use Rattle.root.proofs.sqrt_positive.Goals.{Joined-b-lt8388608, Start, then-b-lt8388608, else-b-lt8388608}
 
 fit : (c : Start) → T (fits binary32 c.args.x)
 fit c = subst T (sym c.well_formed.0.1) tt
@@ -18,10 +18,10 @@ word : (c : Joined-b-lt8388608) → (wide c.if-b-lt8388608.w ≡ square_units bi
 word c =
     let s = c.before in
     let x = s.args.x in
-    ⊎_elim
-    (λ h. (ap wide h.2 ∙ h.1.ensures.0 ∙ small-value x (fit s) s.requires h.0.taken, omega (arith, h.2, h.1.ensures.1)))
-    (λ h. (wide-bits (to_bits binary32 x) c.if-b-lt8388608.w h.1 ∙ (start-high x (fit s) s.requires (omega (arith, h.0.left))).0, omega (arith, h.1, high s)))
-    c.if-b-lt8388608.branch
+    elim c.if-b-lt8388608.branch [
+      | then-b-lt8388608 h ↦ (ap wide h.w-is ∙ h.lengthened-w.ensures.0 ∙ small-value x (fit s) s.requires h.if-b-lt8388608.true, omega (arith, h.w-is, h.lengthened-w.ensures.1))
+      | else-b-lt8388608 h ↦ (wide-bits (to_bits binary32 x) c.if-b-lt8388608.w h.w-is ∙ (start-high x (fit s) s.requires (omega (arith, h.if-b-lt8388608.false))).0, omega (arith, h.w-is, high s))
+    ]
 
 pub float_to_bits-b : goal.float_to_bits-b
 float_to_bits-b c = not-nan c.args.x c.requires

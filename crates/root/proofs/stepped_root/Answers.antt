@@ -1,4 +1,4 @@
-use Rattle.std.proofs.Common.{◌+◌, ◌-◌, ◌*◌, ◌^◌, ◌<◌, arith, rules}
+use Rattle.std.proofs.Common.{◌*◌, ◌^◌, ◌<◌, arith}
 use Rattle.root.proofs.Law.{square-back}
 use Rattle.root.proofs.stepped_root.Goals as goal
 use Rattle.root.proofs.stepped_root.Goals.{At-loop-r, In-loop-r}

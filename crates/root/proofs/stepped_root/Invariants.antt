@@ -1,5 +1,4 @@
-use Rattle.std.proofs.Common.{◌+◌, ◌-◌, ◌*◌, ◌^◌, ◌<◌, arith, rules}
-use Rattle.root.proofs.Law.{square-back}
+use Rattle.std.proofs.Common.{◌+◌, ◌-◌, ◌*◌, ◌^◌, ◌<◌}
 use Rattle.root.proofs.stepped_root.Given as goal
 
 abbrev pub invariant-loop-r : goal.invariant-loop-r

@@ -1,4 +1,4 @@
-use Rattle.std.proofs.Common.{◌-◌, ◌*◌, ◌/◌, ◌^◌, ◌≤◌, arith, rules}
+use Rattle.std.proofs.Common.{◌-◌, ◌*◌, ◌/◌, ◌^◌, ◌≤◌, arith}
 use Rattle.root.proofs.Law.{parts}
 use Rattle.root.proofs.value.Goals as goal
 use Rattle.root.proofs.value.Goals.{Start}
