@@ -1,5 +1,6 @@
 // Clip arguments: the scale, and the rest of the caller's own slice.
 #![tactic(auto)]
+
 ghost use Rattle.std.specs.Prelude.{◌≡◌};
 ghost use Rattle.clips.specs.Clip.{at_least_one, clip_parts, clip_of, IsRest, Splits};
 ghost use Rattle.clips.specs.Inner.{ClipIn};

@@ -1,5 +1,6 @@
 // Alphas and colours as a tag writes them, in hexadecimal.
 #![tactic(auto)]
+
 ghost use Rattle.std.specs.Prelude.{◌≡◌, ◌+◌, ◌-◌, ◌≤◌, length};
 ghost use Rattle.colour.specs.Colour.{trimmed as trimmed_to, ampersands as ampersands_to, zero_xat, digits, cap, rgb, alpha_at, colour_at};
 ghost use Rattle.colour.specs.Inner.{Inside};

@@ -1,5 +1,6 @@
 // Comma lists of numbers.
 #![tactic(auto)]
+
 ghost use Rattle.std.specs.Prelude.{◌≡◌, ◌≤◌, length, set};
 ghost use Rattle.lists.specs.Lists.{first_of};
 ghost use Rattle.lists.specs.Inner.{item_at, items_to, is_word, word_of, long_of, numbers_of};
