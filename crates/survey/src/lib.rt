@@ -1,5 +1,6 @@
 // A first look at a text, before it is read.
 #![tactic(auto)]
+
 ghost use Rattle.std.specs.Prelude.{◌≡◌, true, ℕ, ◌+◌, ◌-◌, ◌≤◌, ◌<◌, length};
 ghost use Rattle.scan.specs.Scan.{span_to, back_to};
 ghost use Rattle.numeral.specs.Numeral.{is_digit};

@@ -2,16 +2,11 @@
 use mathlib.Core.Path.{◌≡◌, refl, ap, ◌∙◌}
 use mathlib.Core.List.{List, [], ◌∷◌}
 use mathlib.Core.Bool.{true, false}
-use mathlib.Core.Logic.{⊎_elim}
 use Prim.Native.Nat.{ℕ}
-use native.Mathlib.Omega.{arith}
-use types.Run.{OneOf}
-use denote.Enum.Declared.{tag_of}
 use Rattle.refusal.specs.declared.Checked.TheVariants.{Good, Bad}
 use Rattle.refusal.specs.declared.Refusal.TheVariants.{NumeralTooLong}
 use Rattle.tokens.specs.declared.Token.{Token}
 use Rattle.tokens.specs.declared.Token.TheVariants.{Letter, Number, Refused, Other}
-use Rattle.tokens.specs.contracts.Token.{the_type}
 use Rattle.tokens.specs.declared.Next.{Next}
 use Rattle.tokens.specs.declared.Next.TheVariants.{End, Is}
 use Rattle.tokens.specs.Tokens.{is_letter, from, until_letter, tail, tokens_ground}
@@ -29,11 +24,11 @@ next-end {s} {i} {r} f q =
 
 -- ---- ground 3
 
-ground_on : (t : Token) (ts : List Token) → OneOf (0 ∷ 1 ∷ 3 ∷ []) (tag_of the_type t) → tokens_ground (t ∷ ts) ≡ tokens_ground ts
+ground_on : (t : Token) (ts : List Token) → ((p : ℕ) → t ≡ Refused p → ⊥) → tokens_ground (t ∷ ts) ≡ tokens_ground ts
 unfolding tokens_ground
 ground_on (Letter b) ts h = refl
 ground_on (Number x) ts h = refl
-ground_on (Refused p) ts h = absurd (⊎_elim (λ z. omega arith) (λ h. ⊎_elim (λ z. omega arith) (λ z. omega arith) h) h)
+ground_on (Refused p) ts h = absurd (h p refl)
 ground_on Other ts h = refl
 
 module _ {s : List ℕ} {i : ℕ} where
@@ -41,7 +36,7 @@ module _ {s : List ℕ} {i : ℕ} where
   unfolding tokens_ground
   ground-end f q = ap tokens_ground (next-end f q)
 
-  pub ground_go : {t : Token} {j : ℕ} → NextIs s i t j → OneOf (0 ∷ 1 ∷ 3 ∷ []) (tag_of the_type t) → tokens_ground (from s i) ≡ tokens_ground (from s j)
+  pub ground_go : {t : Token} {j : ℕ} → NextIs s i t j → ((p : ℕ) → t ≡ Refused p → ⊥) → tokens_ground (from s i) ≡ tokens_ground (from s j)
   ground_go {t} {j} n h = ap tokens_ground n.is ∙ ground_on t (from s j) h
 
   pub ground-stop : {t : Token} {j : ℕ} (p : ℕ) → NextIs s i t j → t ≡ Refused p → tokens_ground (from s i) ≡ Bad (NumeralTooLong p)
@@ -75,6 +70,6 @@ module _ {s : List ℕ} {i : ℕ} where
   unfolding tail tokens_ground
   tail-refused {t} {j} p n q = rw (n.is, q)
 
-  pub tail_go : {t : Token} {j : ℕ} → NextIs s i t j → is_letter t ≡ false → OneOf (0 ∷ 1 ∷ 3 ∷ []) (tag_of the_type t) → tokens_ground (tail (from s i)) ≡ tokens_ground (tail (from s j))
+  pub tail_go : {t : Token} {j : ℕ} → NextIs s i t j → is_letter t ≡ false → ((p : ℕ) → t ≡ Refused p → ⊥) → tokens_ground (tail (from s i)) ≡ tokens_ground (tail (from s j))
   unfolding tail
   tail_go {t} {j} n q h = rw (n.is, q) (ground_on t (tail (from s j)) h)

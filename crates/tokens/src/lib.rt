@@ -1,5 +1,6 @@
 // The tokens of a drawing's text: what stands between its blanks.
 #![tactic(auto)]
+
 ghost use Rattle.std.specs.Prelude.{◌≡◌, true, ◌≤◌, ◌<◌, length};
 ghost use Rattle.tokens.specs.Tokens.{spells as spells_at, special as special_at, one_letter, token_of, token_end, is_letter, from as tokens_from, tail, tokens_ground};
 ghost use Rattle.tokens.specs.Inner.{Follows, Skips, rate_of, letter_weight, Light, Straight};
