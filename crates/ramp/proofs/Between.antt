@@ -1,7 +1,7 @@
 -- How far an instant is on its way from one to another: strictly between them, within 0 to 1.
 use mathlib.Core.Path.{◌≡◌}
 use mathlib.Core.Bool.{false, true≢false}
-use Prim.Native.Nat.{◌-◌, ◌^◌, ◌≤◌, ◌<◌}
+use Prim.Native.Nat.{◌^◌, ◌≤◌, ◌<◌}
 use native.Mathlib.Omega.{arith}
 use lib.IntN.{ℤ, pos, negsuc, ◌-ℤ◌}
 use lib.Signed.{le_z}

@@ -1,5 +1,6 @@
 // How far an instant is on its way between two, and what lies between two values there.
 #![tactic(auto)]
+
 ghost use Rattle.std.specs.Prelude.{◌≡◌, true, pos, ◌-ℤ◌};
 ghost use Rattle.std.specs.Int.Signed.{le_z};
 ghost use Rattle.state.specs.Mix.{quotient as quotient_of, advance as advance_of, mix_pair, lerp_bytes, cut_between};

@@ -1,5 +1,6 @@
 // The render state at an instant: the Rust's RenderState less `transform`. Its fields stand in groups, each with its own name.
 #![tactic(auto)]
+
 ghost use Rattle.std.specs.Prelude.{◌≡◌};
 ghost use Rattle.state.specs.State.{identity as no_override};
 
