@@ -1,5 +1,6 @@
 // What the tags but \t do, where it is more than to set a field.
 #![tactic(auto)]
+
 ghost use Rattle.std.specs.Prelude.{◌≡◌};
 ghost use Rattle.float.specs.Float.{to_radians, max_zero};
 ghost use Rattle.tag.specs.Decode.{f};

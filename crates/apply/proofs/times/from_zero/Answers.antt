@@ -7,8 +7,7 @@ use mir.Facts.{sfits_to_z, Fits-of_z}
 use Rattle.state.specs.Apply.{from_zero_lem}
 use Rattle.float.proofs.Words.{up_case}
 use Rattle.ramp.proofs.Ints.{seen}
-use Rattle.apply.proofs.times.from_zero.Statement.{statement}
-use Rattle.apply.proofs.times.from_zero.Tie as tie
+use Rattle.apply.proofs.times.from_zero.Goals as goal
 
 up_is : (y x : ℤ) → y ≡ x → le_z (pos 0) y ≡ true → nat_abs y ≡ from_zero_lem x
 up_is (pos n) x e h = ap from_zero_lem e
@@ -18,14 +17,11 @@ down_is : (y x : ℤ) → y ≡ x → le_z (pos 0) y ≡ false → 0 ≡ from_ze
 down_is (pos n) x e h = absurd (true≢false (sym (leb-zero n) ∙ h))
 down_is (negsuc n) x e h = ap from_zero_lem e
 
-cast-result : tie.Need-overflow-cast-result
-cast-result c = let f = c.before.ranges.t in (up_case _ _ (seen f) (sfits_to_z (Fits-of_z f)) c.if1.true).0
+pub overflow_cast-result : goal.overflow_cast-result
+overflow_cast-result c = let f = c.ranges.t in (up_case _ _ (seen f) (sfits_to_z (Fits-of_z f)) c.if-t-ge0.true).0
 
-returns : tie.Need-returns
-returns c = up_is _ _ (seen c.before.ranges.t) c.if1.true
+pub returns-then-t-ge0 : goal.returns-then-t-ge0
+returns-then-t-ge0 c = up_is _ _ (seen c.ranges.t) c.if-t-ge0.true
 
-returns-2 : tie.Need-returns-2
-returns-2 c = down_is _ _ (seen c.before.ranges.t) c.if1.false
-
-pub from-zero-spec : {M : Type 1} → statement M
-from-zero-spec = tie.close (tie.spec cast-result returns returns-2)
+pub returns-else-t-ge0 : goal.returns-else-t-ge0
+returns-else-t-ge0 c = down_is _ _ (seen c.ranges.t) c.if-t-ge0.false
