@@ -1,9 +1,0 @@
-use borrow.Author.Rules.{rules}
-use Rattle.mix.proofs.mix_opt_rgb.Statement.{statement}
-use Rattle.mix.proofs.mix_opt_rgb.Tie as tie
-
-returns-2 : tie.Need-returns-2
-returns-2 c = rw (c.before.before.before.b.given.1, c.mix-rgb.ensures, c.before.rgb-or.ensures)
-
-pub mix-opt-rgb-spec : {M : Type 1} → statement M
-mix-opt-rgb-spec = tie.close (tie.spec (λ c. search rules) (λ c. search rules) (λ c κs. search rules) (λ c κs. search rules) (λ c. search rules) returns-2)

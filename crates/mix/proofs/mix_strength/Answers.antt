@@ -1,0 +1,9 @@
+use borrow.Author.Tests.{eq-eqb, ne_eqb}
+use borrow.Author.Rules.{rules}
+use Rattle.mix.proofs.mix_strength.Goals as goal
+
+pub returns-then-a-b : goal.returns-then-a-b
+returns-then-a-b c = rw (eq-eqb _ _ c.if-a-b.true)
+
+pub returns-else-a-b : goal.returns-else-a-b
+returns-else-a-b c = rw (ne_eqb _ _ c.if-a-b.false, c.round_between.ensures)
