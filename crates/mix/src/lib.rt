@@ -1,5 +1,6 @@
 // How far a \t has come, and how a state goes over into another inside it.
 #![tactic(auto)]
+
 ghost use Rattle.std.specs.Prelude.{◌≡◌};
 ghost use Rattle.scan.specs.Scan.{pick};
 ghost use Rattle.tag.specs.Decode.{f, times_of};

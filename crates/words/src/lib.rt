@@ -1,5 +1,6 @@
 // A render state as the 92 words of the C interface.
 #![tactic(auto)]
+
 ghost use Rattle.std.specs.Prelude.{◌≡◌, [], ◌∷◌, ◌+◌, ◌≤◌, length};
 ghost use Rattle.words.specs.Words as Words;
 ghost use Rattle.words.specs.Words.{words_from0, words_from18, words_from44, words_from70};

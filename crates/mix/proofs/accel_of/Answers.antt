@@ -1,5 +1,4 @@
 use lib.Ieee.{of_bits}
-use borrow.Author.Rules.{rules}
 use Rattle.mix.proofs.accel_of.Goals as goal
 
 pub returns-then-finite : goal.returns-then-finite

@@ -1,4 +1,3 @@
-use borrow.Author.Rules.{rules}
 use Rattle.state.specs.Mix.{bent}
 use Rattle.mix.proofs.bent.Goals as goal
 

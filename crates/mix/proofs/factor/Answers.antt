@@ -1,5 +1,4 @@
 use mathlib.Core.Path.{ap, ◌∙◌}
-use borrow.Author.Rules.{rules}
 use Rattle.tag.specs.Decode.{times_of}
 use Rattle.state.specs.Mix.{accel_of}
 use Rattle.ramp.proofs.Ints.{seen}

@@ -1,5 +1,4 @@
 use lib.Ieee.{of_bits}
-use borrow.Author.Rules.{rules}
 use Rattle.state.specs.Mix.{held}
 use Rattle.mix.proofs.held.Goals as goal
 

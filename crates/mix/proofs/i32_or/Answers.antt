@@ -1,10 +1,9 @@
-use mir.Syntax.{w32}
-use mir.ValLaws.{to_z-of_z}
-use borrow.Author.Rules.{rules}
+use mir.Val.{SFits}
+use Rattle.std.proofs.Common.{to_z-of_z, w32, rules}
 use Rattle.mix.proofs.i32_or.Goals as goal
 
 pub returns-in-None : goal.returns-in-None
-returns-in-None c = let s = c.before.before in rw (to_z-of_z w32 s.args.y s.ranges.y, c.in-None.is)
+returns-in-None c = rw (to_z-of_z {w = w32} {z = c.args.y} c.ranges.y, c.in-None.is)
 
 pub returns-in-Some : goal.returns-in-Some
-returns-in-Some c = let a = c.a-1.given in rw (to_z-of_z w32 a.0.0 (record { sfits = c.in-Some.known_told-1-own.given.0.1 }), a.1)
+returns-in-Some c = let f : SFits w32 c.in-Some.x = search rules in rw (to_z-of_z {w = w32} {z = c.in-Some.x} f, c.in-Some.is)

@@ -1,4 +1,3 @@
-use borrow.Author.Rules.{rules}
 use Rattle.mix.proofs.Law.{kept-none, kept-some}
 use Rattle.mix.proofs.kept_pivot.Goals as goal
 

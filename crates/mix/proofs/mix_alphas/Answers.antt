@@ -1,4 +1,3 @@
-use borrow.Author.Rules.{rules}
 use Rattle.state.specs.Mix.{mix_alphas}
 use Rattle.mix.proofs.mix_alphas.Goals as goal
 

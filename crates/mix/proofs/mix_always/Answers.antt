@@ -1,4 +1,3 @@
-use borrow.Author.Rules.{rules}
 use Rattle.state.specs.Mix.{mix_always}
 use Rattle.mix.proofs.mix_always.Goals as goal
 

@@ -1,4 +1,3 @@
-use borrow.Author.Rules.{rules}
 use Rattle.state.specs.Mix.{mix_clips}
 use Rattle.mix.proofs.mix_clips.Goals as goal
 

@@ -1,4 +1,3 @@
-use borrow.Author.Rules.{rules}
 use Rattle.state.specs.Mix.{mix_colors}
 use Rattle.mix.proofs.mix_colors.Goals as goal
 

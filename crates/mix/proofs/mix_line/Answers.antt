@@ -1,5 +1,4 @@
 use lib.Ieee.{of_bits}
-use borrow.Author.Rules.{rules}
 use Rattle.state.specs.Mix.{mix_line}
 use Rattle.mix.proofs.mix_line.Goals as goal
 

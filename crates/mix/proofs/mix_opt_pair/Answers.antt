@@ -1,4 +1,3 @@
-use borrow.Author.Rules.{rules}
 use Rattle.mix.proofs.mix_opt_pair.Goals as goal
 
 pub returns-in-Some : goal.returns-in-Some

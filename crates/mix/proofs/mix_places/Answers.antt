@@ -1,4 +1,3 @@
-use borrow.Author.Rules.{rules}
 use Rattle.state.specs.Mix.{mix_places}
 use Rattle.mix.proofs.mix_places.Goals as goal
 

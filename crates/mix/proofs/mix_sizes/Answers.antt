@@ -1,4 +1,3 @@
-use borrow.Author.Rules.{rules}
 use Rattle.state.specs.Mix.{mix_sizes}
 use Rattle.mix.proofs.mix_sizes.Goals as goal
 

@@ -1,4 +1,3 @@
-use borrow.Author.Rules.{rules}
 use Rattle.state.specs.Mix.{between}
 use Rattle.mix.proofs.mix_state.Goals as goal
 

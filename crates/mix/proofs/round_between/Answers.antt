@@ -1,4 +1,3 @@
-use borrow.Author.Rules.{rules}
 use Rattle.state.specs.Mix.{round_between}
 use Rattle.mix.proofs.round_between.Goals as goal
 

@@ -1,4 +1,3 @@
-use borrow.Author.Rules.{rules}
 use Rattle.mix.proofs.same_pair.Goals as goal
 
 pub returns-in-Some : goal.returns-in-Some
