@@ -1,5 +1,6 @@
 // What a letter of a drawing does.
 #![tactic(auto)]
+
 ghost use Rattle.std.specs.Prelude.{◌≡◌, ◌≤◌, ◌<◌, length};
 ghost use Rattle.tokens.specs.Tokens.{from as tokens_from};
 ghost use Rattle.path.specs.Inner.{Emits};

@@ -1,13 +1,9 @@
 -- Ground 3, turn by turn: what a turn passes over holds no refused numeral, unless it is the token itself or stands in the tail of an unknown command.
 use mathlib.Core.Path.{◌≡◌, refl, sym, ap, ◌∙◌}
 use mathlib.Core.List.{List, [], ◌∷◌}
-use mathlib.Core.Bool.{Bool}
-use mathlib.Core.Logic.{⊎_elim}
+use mathlib.Core.Bool.{Bool, true, false}
 use Prim.Native.Nat.{ℕ}
-use native.Mathlib.Omega.{arith}
 use lib.Ieee.{Float}
-use types.Run.{OneOf}
-use denote.Enum.Declared.{tag_of}
 use Rattle.scan.proofs.Laws.{picked}
 use Rattle.refusal.specs.Answer.{first_ground}
 use Rattle.refusal.specs.declared.Refusal.{Refusal}
@@ -18,7 +14,6 @@ use Rattle.tokens.specs.declared.Token.{Token}
 use Rattle.tokens.specs.declared.Token.TheVariants.{Letter, Number, Refused, Other}
 use Rattle.pen.specs.declared.Command.{Command}
 use Rattle.pen.specs.declared.Command.TheVariants.{Move, MoveOpen, Line, Cubic, Basis, Close, Unknown}
-use Rattle.pen.specs.contracts.Command.{the_type}
 use Rattle.path.specs.declared.Point.{Point}
 use Rattle.pen.specs.declared.Mode.{Mode}
 use Rattle.pen.specs.declared.Mode.TheVariants.{Idle, Lines, Cubics, Spline}
@@ -79,14 +74,14 @@ moves_ground : (closes : Bool) (pen : Pen) (r : Read1) (ts : List Token) → tok
 moves_ground closes pen none1 ts e = refl
 moves_ground closes pen (point p rest) ts e = sym e
 
-command-ground : (c : Command) (k : Float) (pen : Pen) (ts : List Token) → OneOf (0 ∷ 1 ∷ 2 ∷ 3 ∷ 4 ∷ 5 ∷ []) (tag_of the_type c) → tokens_ground ts ≡ tokens_ground (command c k pen ts).rest
-command-ground Move k pen ts h = moves_ground _ pen (read_point k ts) ts (read-ground k ts)
-command-ground MoveOpen k pen ts h = moves_ground _ pen (read_point k ts) ts (read-ground k ts)
+command-ground : (c : Command) (k : Float) (pen : Pen) (ts : List Token) → (c ≡ Unknown → ⊥) → tokens_ground ts ≡ tokens_ground (command c k pen ts).rest
+command-ground Move k pen ts h = moves_ground true pen (read_point k ts) ts (read-ground k ts)
+command-ground MoveOpen k pen ts h = moves_ground false pen (read_point k ts) ts (read-ground k ts)
 command-ground Line k pen ts h = refl
 command-ground Cubic k pen ts h = refl
 command-ground Basis k pen ts h = refl
 command-ground Close k pen ts h = refl
-command-ground Unknown k pen ts h = absurd (⊎_elim (λ z. omega arith) (λ h. ⊎_elim (λ z. omega arith) (λ h. ⊎_elim (λ z. omega arith) (λ h. ⊎_elim (λ z. omega arith) (λ h. ⊎_elim (λ z. omega arith) (λ z. omega arith) h) h) h) h) h)
+command-ground Unknown k pen ts h = absurd (h refl)
 
 -- the tail of an unknown command, then the rest
 tail_splits : (ts : List Token) → tokens_ground ts ≡ first_ground (tokens_ground (tail ts)) (tokens_ground (until_letter ts))
@@ -98,7 +93,7 @@ tail_splits (Refused p ∷ ts) = refl
 tail_splits (Other ∷ ts) = tail_splits ts
 
 module _ (k : Float) (pen : Pen) (ts : List Token) where
-  pub letter_known : (b : ℕ) (c : Command) → c ≡ command_of b → OneOf (0 ∷ 1 ∷ 2 ∷ 3 ∷ 4 ∷ 5 ∷ []) (tag_of the_type c) → tokens_ground (Letter b ∷ ts) ≡ tokens_ground (letter_turn b k pen ts).rest
+  pub letter_known : (b : ℕ) (c : Command) → c ≡ command_of b → (c ≡ Unknown → ⊥) → tokens_ground (Letter b ∷ ts) ≡ tokens_ground (letter_turn b k pen ts).rest
   unfolding tokens_ground letter_turn
   letter_known b c e h = picked (λ (u : Turn). tokens_ground ts ≡ tokens_ground u.rest) (continues pen.mode b) (turned pen [] ts) (command (command_of b) k (settled pen) ts) refl (rw (← e) (command-ground c k (settled pen) ts h))
 

@@ -2,15 +2,11 @@
 use mathlib.Core.Path.{◌≡◌, refl, sym, subst}
 use mathlib.Core.List.{List, [], ◌∷◌}
 use mathlib.Core.Bool.{true}
-use mathlib.Core.Logic.{⊎_elim}
 use Prim.Native.Nat.{ℕ, ◌+◌, ◌≤◌}
 use native.Mathlib.Omega.{arith}
 use lib.Ieee.{Float}
-use types.Run.{OneOf}
-use denote.Enum.Declared.{tag_of}
 use Rattle.tokens.specs.declared.Token.{Token}
 use Rattle.tokens.specs.declared.Token.TheVariants.{Letter, Number, Refused, Other}
-use Rattle.tokens.specs.contracts.Token.{the_type}
 use Rattle.tokens.specs.Tokens.{from}
 use Rattle.tokens.specs.Inner.{NextIs}
 use Rattle.path.specs.declared.PathCommand.{PathCommand}
@@ -88,8 +84,8 @@ module _ {s : List ℕ} {i : ℕ} {t : List ℕ} {n : ℕ} {r : Stand} {u : List
   bare-by e w = subst (λ (x : Mode). Turns s t n (bare_by x k pen all ts) i r u) (sym e) w
 
 -- a token that is no letter
-pub bare_turned : {s : List ℕ} {i : ℕ} {t : List ℕ} {n : ℕ} {r : Stand} {u : List ℕ} (k : Float) (pen : Pen) (all ts : List Token) (x : Token) → OneOf (1 ∷ 2 ∷ 3 ∷ []) (tag_of the_type x) → Turns s t n (bare_turn k pen all ts) i r u → Turns s t n (turn_of x k pen all ts) i r u
-bare_turned k pen all ts (Letter b) h w = absurd (⊎_elim (λ z. omega arith) (λ h. ⊎_elim (λ z. omega arith) (λ z. omega arith) h) h)
+pub bare_turned : {s : List ℕ} {i : ℕ} {t : List ℕ} {n : ℕ} {r : Stand} {u : List ℕ} (k : Float) (pen : Pen) (all ts : List Token) (x : Token) → ((b : ℕ) → x ≡ Letter b → ⊥) → Turns s t n (bare_turn k pen all ts) i r u → Turns s t n (turn_of x k pen all ts) i r u
+bare_turned k pen all ts (Letter b) h w = absurd (h b refl)
 bare_turned k pen all ts (Number x) h w = w
 bare_turned k pen all ts (Refused p) h w = w
 bare_turned k pen all ts Other h w = w

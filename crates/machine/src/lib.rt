@@ -1,5 +1,6 @@
 // The machine that takes a drawing's tokens one after the other: what a token that is no letter does, and the loop over all of them.
 #![tactic(auto)]
+
 ghost use Rattle.std.specs.Prelude.{◌≡◌, ◌+◌, ◌≤◌, ◌<◌, length};
 ghost use Rattle.tokens.specs.Tokens.{from as tokens_from};
 ghost use Rattle.tokens.specs.Inner.{NextIs};

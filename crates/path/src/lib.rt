@@ -1,5 +1,6 @@
 // Points, the commands of a path, and writing them into a lent table.
 #![tactic(auto)]
+
 ghost use Rattle.std.specs.Prelude.{◌≡◌, [], ◌∷◌, ◌<◌};
 ghost use Rattle.path.specs.Path.{laid_path, move_to, line_to, cubic_to, closed};
 ghost use Rattle.path.specs.Inner.{Emits};

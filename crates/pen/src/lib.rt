@@ -1,5 +1,6 @@
 // The pen, what a letter can ask of it, and splines that draw as their control points come.
 #![tactic(auto)]
+
 ghost use Rattle.std.specs.Prelude.{◌≡◌, [], ◌∷◌, ◌<◌};
 ghost use Rattle.pen.specs.Drawing.{bez as bez_of, span_of, span_gives, spline_point, settled as settled_pen};
 ghost use Rattle.path.specs.Inner.{Emits};

@@ -1,16 +1,12 @@
 -- Points, token by token.
 use mathlib.Core.Path.{◌≡◌, refl, ap, ◌∙◌}
-use mathlib.Core.List.{List, [], ◌∷◌}
-use mathlib.Core.Logic.{⊎_elim}
+use mathlib.Core.List.{List, ◌∷◌}
 use Prim.Native.Nat.{ℕ, ◌≤◌, ◌<◌}
 use native.Mathlib.Omega.{arith}
 use lib.Ieee.{Float}
 use lib.ListN.{length}
-use types.Run.{OneOf}
-use denote.Enum.Declared.{tag_of}
 use Rattle.tokens.specs.declared.Token.{Token}
 use Rattle.tokens.specs.declared.Token.TheVariants.{Letter, Number, Refused, Other}
-use Rattle.tokens.specs.contracts.Token.{the_type}
 use Rattle.tokens.specs.declared.Next.{Next}
 use Rattle.tokens.specs.declared.Next.TheVariants.{End}
 use Rattle.tokens.specs.Tokens.{from}
@@ -24,22 +20,22 @@ use Rattle.pen.specs.Drawing.{Read1, none1, point, scaled, behind_number, read_p
 use Rattle.points.specs.Inner.{Behind1, PointFrom, ReadsPoint, ReadsThree}
 
 -- a token that is no number
-no_number : (t : Token) (ts : List Token) (f : Float → List Token → Read1) → OneOf (0 ∷ 2 ∷ 3 ∷ []) (tag_of the_type t) → behind_number (t ∷ ts) f ≡ none1
+no_number : (t : Token) (ts : List Token) (f : Float → List Token → Read1) → ((x : Float) → t ≡ Number x → ⊥) → behind_number (t ∷ ts) f ≡ none1
 no_number (Letter b) ts f h = refl
-no_number (Number x) ts f h = absurd (⊎_elim (λ z. omega arith) (λ h. ⊎_elim (λ z. omega arith) (λ z. omega arith) h) h)
+no_number (Number x) ts f h = absurd (h x refl)
 no_number (Refused p) ts f h = refl
 no_number Other ts f h = refl
 
 -- ---- one point
 
 module _ (s : List ℕ) (t : Token) (j : ℕ) (k : Float) where
-  pub from-other : OneOf (0 ∷ 2 ∷ 3 ∷ []) (tag_of the_type t) → PointFrom s k t j NoPoint
+  pub from-other : ((x : Float) → t ≡ Number x → ⊥) → PointFrom s k t j NoPoint
   from-other h = record { is = no_number t (from s j) _ h; place = tt }
 
   pub from-half : {r : Next} (x : Float) → t ≡ Number x → Follows s j r → r ≡ End → PointFrom s k t j NoPoint
   from-half x q f e = record { is = rw (q, next-end f e); place = tt }
 
-  pub from-broken : {u : Token} {l : ℕ} (x : Float) → t ≡ Number x → NextIs s j u l → OneOf (0 ∷ 2 ∷ 3 ∷ []) (tag_of the_type u) → PointFrom s k t j NoPoint
+  pub from-broken : {u : Token} {l : ℕ} (x : Float) → t ≡ Number x → NextIs s j u l → ((x : Float) → u ≡ Number x → ⊥) → PointFrom s k t j NoPoint
   from-broken {u} {l} x q m h = record { is = rw (q, m.is) (no_number u (from s l) _ h); place = tt }
 
   pub from-whole : {u : Token} {l : ℕ} (x y : Float) → t ≡ Number x → NextIs s j u l → u ≡ Number y → PointFrom s k t j (PointAt (scaled k x y) l)

@@ -1,5 +1,6 @@
 // Points, read from the tokens of a drawing.
 #![tactic(auto)]
+
 ghost use Rattle.std.specs.Prelude.{◌≤◌, length};
 ghost use Rattle.tokens.specs.Inner.{NextIs};
 ghost use Rattle.points.specs.Inner.{PointFrom, ReadsPoint, ReadsThree};
