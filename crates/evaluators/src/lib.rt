@@ -13,7 +13,7 @@ use state::RenderState;
 
 // What the n records inside the T at the index `at` make of the state a.
 // For the compiler (MEASURED, Shapes for the compiler): the times are lent.
-#[cycle(apply_t_apply_tags)]
+#[cycle(tags)]
 fn apply_t(
     table: &[u32],
     at: usize,
@@ -35,7 +35,7 @@ fn apply_t(
 // its kind and then applied, one field of the state in place; the first at fault ends it, and `fault` then holds its index and 1, which is 0
 // before. Behind the last record the words of the state are written, if they are asked for.
 // For the compiler (MEASURED, Shapes for the compiler): the times are lent.
-#[cycle(apply_t_apply_tags)]
+#[cycle(tags)]
 pub fn apply_tags(
     table: &[u32],
     first: usize,
