@@ -22,7 +22,6 @@ use Rattle.tag.specs.Tag.{AnimatedTag, Be, Pbo}
 use Rattle.tag.specs.declared.Record.{Record}
 use Rattle.tag.specs.Table.{rec, records, bits, one_float, two_floats, four_floats, one_number, part_record, rgb_record, flag_word, kind_word}
 use Rattle.plain.specs.declared.Kept.{Kept}
-use Rattle.plain.specs.declared.Kept.TheVariants as Kept
 use Rattle.plain.specs.Names.{Shape, float, pair, ranged, flag, alpha, colour, clip, beat, fad, fade, move, edge, baseline, weight, reset, unknown, names, lookup, key_at}
 use Rattle.plain.specs.Plain.{kept, part, map_f32, map_alpha, map_colour, or_zero, f32s, unless_long, clip_of, beat_of, nth, shaped, is_fn, is_named_reset, plain_at_lem}
 use Rattle.plain.specs.Inner.{kept_of, kind_of, code_of, keep_word, beat_word, edge_word, baseline_word, long_or, nth_word, alpha_tag, colour_tag, clip_tag, drawing_tag, numbers_at, shaped_tag}

@@ -20,7 +20,6 @@ use Rattle.tag.specs.Tag.{AnimatedTag, R, plain, named}
 use Rattle.tag.specs.Table.{rec, head, records, two_floats, one_number, flag_word}
 use Rattle.tag.proofs.Tags.{records_own}
 use Rattle.plain.specs.declared.Kept.{Kept}
-use Rattle.plain.specs.declared.Kept.TheVariants as Kept
 use Rattle.plain.specs.Plain.{One, no, long, kept, far, part, f32s, unless_long, pair_of, move_of, fad_of, fade_of, ranged_of, weight_of, flag_of, reset_of, int_of, nth_int, is_far}
 use Rattle.plain.specs.Inner.{kept_of, long_or, pair_tag, move_tag, fad_tag, fade_tag, ranged_tag, weight_tag, flag_tag, reset_tag}
 use Rattle.plain.proofs.Numbers.{Small, high, clip-word, byte_word, far-word}

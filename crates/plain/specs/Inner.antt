@@ -22,7 +22,6 @@ use Rattle.tag.specs.Table.{rec, head, kind_word}
 use Rattle.plain.specs.declared.Shape as Code
 use Rattle.plain.specs.declared.Shape.TheVariants.{Float, Pair, Ranged, Flag, Alpha, Colour, Clip, Beat, Fad, Fade, Move, Edge, Baseline, Weight, Reset, Unknown}
 use Rattle.plain.specs.declared.Kept.{Kept}
-use Rattle.plain.specs.declared.Kept.TheVariants as Kept
 use Rattle.plain.specs.declared.PartWords.{PartWords}
 use Rattle.plain.specs.Names as Names
 use Rattle.plain.specs.Plain.{One, no, long, kept, far, part}

@@ -1,5 +1,6 @@
 // One tag of a block, \t apart: its name, its parameter, its record.
 #![tactic(auto)]
+
 ghost use Rattle.std.specs.Prelude.{◌≡◌, ◌+◌, ◌-◌, ◌^◌, ◌≤◌, ◌<◌, length};
 ghost use Rattle.tag.specs.Table.{rec};
 ghost use Rattle.plain.specs.Names.{key_of, lowered, key_at, lookup, names};

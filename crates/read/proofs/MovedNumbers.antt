@@ -5,7 +5,7 @@ use Prim.Native.Nat.{ℕ, zero, suc, ◌+◌, ◌-◌, ◌*◌, ◌≤◌}
 use native.Mathlib.Omega.{arith}
 use lib.IntN.{ℤ}
 use lib.ListN.{get_or}
-use lib.Dec.{ltb, leb, eqb}
+use lib.Dec.{leb, eqb}
 use Rattle.scan.specs.Scan.{digit_of, in_class}
 use Rattle.scan.specs.declared.Class.TheVariants.{Digit, Not, Either}
 use Rattle.numeral.specs.declared.Decimal.{Decimal}

@@ -51,7 +51,7 @@ module _ (s : List ℕ) (name i e : ℕ) where
       let b : c ≤ e = omega (arith, closing-high s (e - (i + 1)) (i + 1) 1) in
       record {
         is = refl;
-        name-is = refl;
+        name_is = refl;
         end_is = refl;
         low = omega arith;
         order = a;
@@ -65,7 +65,7 @@ module _ (s : List ℕ) (name i e : ℕ) where
       let d = span_to (in_class (Not 92)) s i e in
       let bare : In (record { name = name; end = i; p = i; q = d; next = d }) = record {
         is = refl;
-        name-is = refl;
+        name_is = refl;
         end_is = refl;
         low = le_refl i;
         order = span-low (in_class (Not 92)) s (e - i) i;
@@ -207,7 +207,7 @@ module _ (s : List ℕ) (top : ℕ) (P : ℕ → ℕ → ℕ → Got → Type 0)
       (λ (z : get_or s i 0 ≡ 92). picked (P d i e) (eqb r.end (i + 1)) _ _ skip
       (join-has d i r.next e _ _ (omega arith) a.high
       (picked (P d i r.next) (eqb (key_at s r.name r.end) t_key) _ _ (f i r.p r.q r.next z (omega arith) a.order a.next_low below field)
-      (rw a.name-is (plain-has d i r.end r.p r.q r.next z (omega (arith, a.end_is)) (omega (arith, a.end_is, a.low)) a.order a.next_low below field)))
+      (rw a.name_is (plain-has d i r.end r.p r.q r.next z (omega (arith, a.end_is)) (omega (arith, a.end_is, a.low)) a.order a.next_low below field)))
       (walk_has d inner f e n r.next a.high g k)))
       skip)
       (λ (l : e ≤ i). none_has d i e h)

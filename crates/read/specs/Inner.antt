@@ -21,7 +21,7 @@ use Rattle.read.specs.Reading.{kept_tags, brace_end}
 -- a tag's places: what a definition names, in order, up to e
 pub record HeadIn (name i e : ℕ) (d r : Head) : Type 0 where
   pub is : r ≡ d
-  pub name-is : r.name ≡ name
+  pub name_is : r.name ≡ name
   pub end_is : r.end ≡ i
   pub low : i ≤ r.p
   pub order : r.p ≤ r.q

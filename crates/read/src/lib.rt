@@ -1,5 +1,6 @@
 // Override blocks into tables: the two reading calls.
 #![tactic(auto)]
+
 ghost use Rattle.std.specs.Prelude.{◌≡◌, ◌+◌, ◌-◌, ◌*◌, ◌^◌, ◌≤◌, ◌<◌, length};
 ghost use Rattle.lists.specs.Lists.{first_of};
 ghost use Rattle.refusal.specs.Refusal.{most_bytes, text_ground};
@@ -326,7 +327,7 @@ fn around(l: u32, o: Out) -> Out
 }
 
 // One tag, its backslash at i, into the front of the table.
-#[cycle(parse_one_parse_overrides_depth_parse_t)]
+#[cycle(blocks)]
 fn parse_one(text: &[u8], i: usize, h: Head, depth: usize, table: &mut [u32]) -> Out
     requires { (i < h.end) × (h.name ≤ h.end) × (h.end ≤ h.p) × (h.p ≤ h.q) × (h.q ≤ length text.now) × (length text.now ≤ most_bytes) }
     ensures { Told table.old (tag_at (t_at depth text.now) text.now i h) (h.q - h.p + 1) result table.new }
@@ -351,7 +352,7 @@ fn parse_one(text: &[u8], i: usize, h: Head, depth: usize, table: &mut [u32]) ->
 }
 
 // A \t: its tags go into the rest of the table behind its own record.
-#[cycle(parse_one_parse_overrides_depth_parse_t)]
+#[cycle(blocks)]
 fn parse_t(text: &[u8], p: usize, q: usize, depth: usize, table: &mut [u32]) -> Out
     requires { (p ≤ q) × (q ≤ length text.now) × (length text.now ≤ most_bytes) }
     ensures { Told table.old (t_at depth text.now p q) (q - p + 1) result table.new }
@@ -373,7 +374,7 @@ fn parse_t(text: &[u8], p: usize, q: usize, depth: usize, table: &mut [u32]) -> 
 }
 
 // The tags of a block, into the front of the table.
-#[cycle(parse_one_parse_overrides_depth_parse_t)]
+#[cycle(blocks)]
 fn parse_overrides_depth(
     text: &[u8],
     from: usize,

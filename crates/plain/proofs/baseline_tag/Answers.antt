@@ -1,0 +1,11 @@
+use mir.Syntax.{w32}
+use mir.Facts.{to_z-of_z}
+use Rattle.plain.proofs.baseline_tag.Goals as goal
+
+pub returns-in-Word : goal.returns-in-Word
+returns-in-Word c =
+    let b = c.before.before in
+    rw (b.in-Word.is, c.«record».ensures, c.to_word-y.ensures, to_z-of_z {w = w32} (record { sfits = b.round_away.type_inv }), b.round_away.ensures, b.f32_of_word.ensures)
+
+pub returns-in-TooLong : goal.returns-in-TooLong
+returns-in-TooLong c = rw c.in-TooLong.is

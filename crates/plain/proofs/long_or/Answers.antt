@@ -1,0 +1,4 @@
+use Rattle.plain.proofs.long_or.Goals as goal
+
+pub returns-in-At : goal.returns-in-At
+returns-in-At c = rw c.in-At.is
