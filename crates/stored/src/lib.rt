@@ -1,7 +1,10 @@
 // Lines of a stored list: each names a call and gives its words and its text, in hexadecimal.
 #![tactic(auto)]
+
 ghost use Rattle.std.specs.Prelude.{◌≡◌, ◌+◌, ◌*◌, ◌≤◌, length, get_or};
-ghost use Rattle.io.specs.Counts.{IsPrefixLen};
+ghost use Rattle.stored.specs.Counts.{IsPrefixLen};
+
+use std::io::Read;
 
 // A line taken apart: the letter of its call, 0 where the line has another form; the letter of the leaf, for L; how many words and how many bytes of text it has.
 #[derive(Clone, Copy, Drop)]
@@ -15,20 +18,22 @@ pub struct Line {
 // What a word of lent memory holds before a call.
 pub const LENT: u32 = 0xA5A5A5A5;
 
-// The next byte of standard input, a line feed at its end.
-fn next_byte() -> u8 {
+// The next byte of a reader, a line feed at its end.
+fn next_byte<R: Read>(reader: &mut R) -> u8 {
     let mut byte = [10u8; 1];
-    io::read_full(0, &mut byte);
-    byte[0]
+    match reader.read_exact(&mut byte) {
+        Ok(()) => byte[0],
+        Err(_) => 10,
+    }
 }
 
 // Reads a line, as far as `line` goes, and yields its length, without the line feed: 0 behind the last line.
-pub fn read_line(line: &mut [u8]) -> usize
+pub fn read_line<R: Read>(reader: &mut R, line: &mut [u8]) -> usize
     ensures { IsPrefixLen result line.new }
 {
     let mut n: usize = 0;
     while n < line.len() {
-        let b = next_byte();
+        let b = next_byte(reader);
         if b == 10 {
             return n;
         }
