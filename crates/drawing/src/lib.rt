@@ -1,5 +1,6 @@
 // Drawings: the path that a drawing's text describes.
 #![tactic(auto)]
+
 ghost use Rattle.std.specs.Prelude.{◌≡◌, ◌≤◌};
 ghost use Rattle.refusal.specs.Refusal.{text_ground};
 ghost use Rattle.refusal.specs.Answer.{first_ground};

@@ -1,12 +1,9 @@
-use mathlib.Core.Path.{sym, ◌∙◌}
-use mathlib.Core.Bool.{true≢false}
 use mathlib.Core.Logic.{⊎_elim}
 use Prim.Native.Nat.{◌+◌, ◌≤◌, ◌<◌}
 use native.Mathlib.Omega.{arith}
 use Rattle.scan.proofs.Laws.{le_or_lt}
 use Rattle.survey.proofs.Laws.{ten-around}
 use Rattle.survey.proofs.no_ten.Goals as goal
-use Rattle.survey.proofs.no_ten.Goals.{then-has+else-run_around-gt9, else-has}
 
 pub loop-i-preserved : goal.loop-i-preserved
 loop-i-preserved c =
@@ -16,10 +13,10 @@ loop-i-preserved c =
       omega arith,
       omega arith,
       λ j a b d x. ⊎_elim
-          (λ (h : l.i ≤ j). elim c.if-has.branch [
-            | then-has+else-run_around-gt9 w ↦ ten-around g.text.now g.from (l.i + 9) g.to j a (omega arith) (omega arith) d x (omega (arith, w.run_around.ensures, w.if-run_around-gt9.false))
-            | else-has w ↦ true≢false (sym (x (l.i + 9) (omega arith) (omega arith)) ∙ (sym c.has.ensures ∙ w.if-has.false))
-          ])
+          (λ (h : l.i ≤ j).
+          let y = ten-around g.text.now g.from (l.i + 9) g.to j a (omega arith) (omega arith) d x in
+          let z = x (l.i + 9) (omega arith) (omega arith) in
+          grind arith)
           (λ (h : j < l.i). l.invariant.2 j a h d x)
           (le_or_lt l.i j),
     )

@@ -9,8 +9,7 @@ use Rattle.float.specs.Float.{one as f1}
 use Rattle.pen.specs.Drawing.{scale_of}
 use borrow.Author.Tests.{eq-eqb, ne_eqb}
 use borrow.Author.Rules.{rules}
-use Rattle.drawing.proofs.scale_of.Statement.{statement}
-use Rattle.drawing.proofs.scale_of.Tie as tie
+use Rattle.drawing.proofs.scale_of.Goals as goal
 
 -- the shift loses no bit
 scale-some : (e : ℕ) (y : Float) → ¬ (e ≡ 0) → e ≤ 32 → y ≡ of_int binary32 (pos (1 * 2 ^ (e - 1) % 4294967296)) → div binary32 f1 y ≡ scale_of e
@@ -20,16 +19,10 @@ scale-some e y h l q =
     let z : 1 * 2 ^ (e - 1) % 4294967296 ≡ 2 ^ (e - 1) = rw one-mul (mod-eq_of_lt b) in
     rw (ne_eqb e 0 h, q, z)
 
-returns : tie.Need-returns
+pub returns-then-exponent-eq0 : goal.returns-then-exponent-eq0
 unfolding scale_of of_bits
-returns c = rw (eq-eqb _ 0 c.if1.true)
+returns-then-exponent-eq0 c = rw (eq-eqb _ 0 c.if-exponent-eq0.true)
 
-returns-2 : tie.Need-returns-2
+pub returns : goal.returns
 unfolding of_bits
-returns-2 c = scale-some _ _ c.before.if1.false (search rules) c.nearest-u32.ensures
-
-pub scale-of-spec : {M : Type 1} → statement M
-scale-of-spec =
-    tie.close
-    (tie.spec
-    returns (λ c. search rules) (λ c. search rules) (λ c κs. search rules) returns-2)
+returns c = scale-some _ _ c.if-exponent-eq0.false (search rules) c.nearest_u32.ensures
