@@ -103,7 +103,11 @@ cross v d e n h = ap (λ (z : ℕ). z * e) (sym (mul-one v) ∙ h) ∙ mul_assoc
 
 sub-finite : (x y : Float) (a b : ℕ) → Is x a → Is y b → a ≤ 255 → b ≤ 255 → T (finite (sub binary32 x y))
 unfolding sub add neg
+sub-finite nan y a b p q h k = elim p [ ]
+sub-finite (inf _) y a b p q h k = elim p [ ]
 sub-finite (fin true m e) y a b p q h k = absurd (true≢false p.0)
+sub-finite (fin false m e) nan a b p q h k = elim q [ ]
+sub-finite (fin false m e) (inf _) a b p q h k = elim q [ ]
 sub-finite (fin false m e) (fin true n d) a b p q h k = absurd (true≢false q.0)
 sub-finite (fin false m e) (fin false n d) a b p q h k =
     let c = down e * down d in
@@ -131,6 +135,8 @@ whole_again m e a h n q =
 -- and adds nothing to a whole number
 adds_none : (x y : Float) (a : ℕ) → Is x a → Nought y → add binary32 x y ≡ of_nat a
 unfolding add of_int
+adds_none nan y a h z = elim h [ ]
+adds_none (inf _) y a h z = elim h [ ]
 adds_none (fin true m e) y a h z = absurd (true≢false h.0)
 adds_none (fin false m e) y a h (is true) =
     rw (zero-mul (down e), le-ltb (m * up e * 1) 0 (omega arith)) (whole_again m e a h (m * up e * 1 - 0) (sub-zero (m * up e * 1)))

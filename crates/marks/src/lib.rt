@@ -1,5 +1,6 @@
 // The marks of a block: the milliseconds at which the picture may move.
 #![tactic(auto)]
+
 ghost use Rattle.std.specs.Prelude.{◌≡◌, ◌+◌, ◌-◌, ◌≤◌, min, pos, ◌<ℤ◌, length, drop};
 ghost use Rattle.state.specs.Apply.{from_zero_lem};
 ghost use Rattle.tag.specs.Tag.{Fad};
