@@ -1,5 +1,6 @@
 // The evaluators of tags and of \t, which call each other: `apply_tag` and `apply_t` of the Rust.
 #![tactic(auto)]
+
 ghost use Rattle.std.specs.Prelude.{◌≡◌, false, ◌+◌, ◌-◌, ◌<◌};
 ghost use Rattle.table.specs.Inner.{Inside};
 ghost use Rattle.evaluators.specs.Inner.{Applied};
