@@ -1,5 +1,6 @@
 // Karaoke: the spans that the karaoke tags of a table make, and how far an instant is in one.
 #![tactic(auto)]
+
 ghost use Rattle.std.specs.Prelude.{◌≡◌, [], ◌∷◌, ◌++◌, ◌+◌, ◌≤◌, ◌<◌, length, take, drop};
 ghost use Rattle.float.specs.Float.{InUnit};
 ghost use Rattle.tag.specs.Decode.{beat_of};
