@@ -108,8 +108,8 @@ pub fn two_controllers(
     dur: i32,
 ) -> Both
     ensures agreed { Agreed text.now (read_span raw text.now) (lent a.old a1.old a2.old) (lent b.old b1.old b2.old) t u dur result (lent a.new a1.new a2.new) (lent b.new b1.new b2.new) }
-    ensures ran { Ran text.now (read_span raw text.now) (lent a.old a1.old a2.old) t u dur result.a (lent a.new a1.new a2.new) }
-    ensures ran_2 { Ran text.now (read_span raw text.now) (lent b.old b1.old b2.old) t u dur result.b (lent b.new b1.new b2.new) }
+    ensures ran_a { Ran text.now (read_span raw text.now) (lent a.old a1.old a2.old) t u dur result.a (lent a.new a1.new a2.new) }
+    ensures ran_b { Ran text.now (read_span raw text.now) (lent b.old b1.old b2.old) t u dur result.b (lent b.new b1.new b2.new) }
 {
     let first = controller(text, raw, a, a1, a2, t, u, dur);
     let second = controller(text, raw, b, b1, b2, t, u, dur);
