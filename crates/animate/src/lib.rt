@@ -1,5 +1,6 @@
 // 01, What demand 3 speaks of: two controllers read one block into tables of their own and ask for states and marks, by the C calls.
 #![tactic(auto)]
+
 ghost use Rattle.std.specs.Prelude.{◌≡◌, take};
 ghost use Rattle.hannuvel.specs.Packed.{ReadingCall};
 ghost use Rattle.animate.specs.Claim.{read_span, lent, Agreed};

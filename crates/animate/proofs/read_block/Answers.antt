@@ -1,4 +1,3 @@
-use borrow.Author.Rules.{rules}
 use Rattle.animate.proofs.read_block.Goals as goal
 
 pub returns-then-raw : goal.returns-then-raw

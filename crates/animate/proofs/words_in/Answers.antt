@@ -1,4 +1,3 @@
-use borrow.Author.Rules.{rules}
 use Rattle.animate.proofs.words_in.Goals as goal
 
 pub returns : goal.returns
