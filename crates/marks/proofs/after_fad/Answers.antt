@@ -59,10 +59,10 @@ returns-then-d-t2 c =
     let e = c.after_early.ensures ∙ (λ i. after_in (now w i) early_marks) in
     let k = c.least.ensures ∙ (λ i. least (fall w i) (e i)) in
     c.least-then-d-t2.ensures ∙ (λ i. least (rise w i) (k i))
-    ∙ sym (fad-early (s w).args.t (s w).args.dur (s w).args.t1 (s w).args.t2 (rw (lasts w) at c.if-d-t2.true))
+    ∙ sym (fad-early (s w).args.t (s w).args.dur (s w).args.t1 (s w).args.t2 (omega (arith, lasts w, c.if-d-t2.true)))
 
 pub returns-else-d-t2 : goal.returns-else-d-t2
 returns-else-d-t2 c =
     let w = c.before.before in
     c.least-else-d-t2.ensures ∙ (λ i. least (rise w i) (fall w i))
-    ∙ sym (fad-late (s w).args.t (s w).args.dur (s w).args.t1 (s w).args.t2 (rw (lasts w) at c.if-d-t2.false))
+    ∙ sym (fad-late (s w).args.t (s w).args.dur (s w).args.t1 (s w).args.t2 (omega (arith, lasts w, c.if-d-t2.false)))

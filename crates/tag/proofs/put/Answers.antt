@@ -25,7 +25,7 @@ pub bounds-table-7 : goal.bounds-table-7
 bounds-table-7 c = simp length-set (omega arith)
 
 pub returns-then-table-ge8 : goal.returns-then-table-ge8
-returns-then-table-ge8 c = put_room _ _ c.if-table-ge8.true
+returns-then-table-ge8 c = put_room _ _ (omega (arith, c.if-table-ge8.true))
 
 pub returns-else-table-ge8 : goal.returns-else-table-ge8
-returns-else-table-ge8 c = put_none _ _ c.if-table-ge8.false
+returns-else-table-ge8 c = put_none _ _ (omega (arith, c.if-table-ge8.false))
