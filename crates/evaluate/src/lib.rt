@@ -1,5 +1,6 @@
 // The state of a table's tags at an instant: `evaluate_at` of the Rust, by value and as the 92 words of the C interface.
 #![tactic(auto)]
+
 ghost use Rattle.std.specs.Prelude.{◌≡◌};
 ghost use Rattle.evaluate.specs.Inner.{is_good, AppliedAll};
 ghost use Rattle.evaluate.specs.Evaluate.{evaluated, StateStands, opacity_of, Opacity, InWords};

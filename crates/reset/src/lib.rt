@@ -1,5 +1,6 @@
 // What \r has left at an instant, with nothing else of the state worked out.
 #![tactic(auto)]
+
 ghost use Rattle.std.specs.Prelude.{◌≡◌};
 ghost use Rattle.table.specs.Inner.{Inside};
 ghost use Rattle.evaluators.specs.Inner.{tags_at};

@@ -1,5 +1,6 @@
 // The style in force: the name that \r gave, a part of the block, or else the line's own name.
 #![tactic(auto)]
+
 ghost use Rattle.std.specs.Prelude.{◌≡◌, false};
 ghost use Rattle.refusal.specs.declared.Checked.TheVariants.{Good};
 ghost use Rattle.style.specs.Style.{lower_ground, texts_ground, place, refused, given_name, named, style_in, InItsText, IsName, InForce};

@@ -20,6 +20,7 @@ fn is_exponent(a: u8, b: u8) -> bool
 }
 
 // Whether a byte stands behind a field.
+#[tactic(auto, unfolding(crate::specs::Survey::is_stop))]
 fn is_stop(b: u8) -> bool
     ensures { result ≡ is_stop b }
 {

@@ -1,0 +1,4 @@
+use Rattle.evaluate.proofs.apply_all.Goals as goal
+
+pub returns : goal.returns
+returns c = rw (c.least-end.ensures, c.identity-st.ensures) at c.apply_tags-st.ensures
