@@ -2,10 +2,10 @@
  * tags at an instant, the next millisecond at which this state may change, the karaoke syllables and the style in
  * force; and reads drawings into paths.
  *
- * The functions are those of crates/hannuvel, proved and compiled by `rt staticlib hannuvel` into
- * target/staticlib/libhannuvel.a, for programs on x86-64 Linux. They keep nothing between calls, allocate
- * nothing, and can be called from several threads at once on memory that the threads do not share. examples/c has a
- * program that calls them, host/ a Rust crate over them.
+ * The functions are those of crates/hannuvel, exported by crates/hannuvel_c, proved and compiled by
+ * `tools/archives.sh hannuvel` into target/staticlib/libhannuvel.a, for programs on x86-64 Linux. They keep nothing
+ * between calls, allocate nothing, and can be called from several threads at once on memory that the threads do not
+ * share. examples/c has a program that calls them, host/ a Rust crate over them.
  *
  * Lent memory. A slice of Rattle is two arguments: `&[u8]` a pointer and its length in bytes, `&[u32]` and
  * `&mut [u32]` a pointer, aligned to 4 bytes, and its length in 32-bit words; `&mut [u32; 92]` is a pointer to
