@@ -18,7 +18,7 @@ use Rattle.style.specs.declared.Place.{Place}
 use Rattle.hannuvel.specs.Instant.{mark_extra, mark_value}
 
 abbrev pub packed : ℕ → ℕ → ℕ → ℕ
-packed ground extra value = ground * 2 ^ 48 + extra % 2 ^ 16 * 2 ^ 32 + value % 2 ^ 32
+packed number extra value = number * 2 ^ 48 + extra % 2 ^ 16 * 2 ^ 32 + value % 2 ^ 32
 
 abbrev pub refusal_word : Refusal → ℕ
 refusal_word r = packed (number_of r) 0 (place_of r)
