@@ -1,5 +1,6 @@
 // The exports of `hannuvel`, the C interface, declared in include/hannuvel.h: each gives what the library's function of its name gives, under the same clauses. A call answers one number: bits 48 to 63 the refusal's ground, 0 for none; bits 32 to 47 an extra; bits 0 to 31 the value, or the refusal's place or count.
 #![tactic(auto)]
+
 ghost use Rattle.read.specs.Reading.{whole_text, less_braces};
 ghost use Rattle.hannuvel.specs.Packed.{ReadingCall, DrawingCall, ClipCall};
 ghost use Rattle.hannuvel.specs.Instant.{EvaluatingCall, MarkingCall};
