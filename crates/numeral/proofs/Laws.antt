@@ -206,8 +206,8 @@ module _ (s : List ℕ) (a b : ℕ) (d : Decimal) (q : d ≡ split_at s a b) whe
       pub f32-plain : limited a d (pos 0) (float_of s a b d (pos 0)) ≡ f32_of s a b
       f32-plain = no_exponent_says s a b d l (float_of s a b d) ∙ f32_says (rw (le-ltb _ _ l))
 
-      pub f32-long : 9 < d.whole - d.from → F32.too_long_lem a ≡ f32_of s a b
-      f32-long k = limit_before a d (pos 0) _ (omega arith) ∙ f32-plain
+      pub f32_long : 9 < d.whole - d.from → F32.too_long_lem a ≡ f32_of s a b
+      f32_long k = limit_before a d (pos 0) _ (omega arith) ∙ f32-plain
 
       module _ (k : d.whole - d.from ≤ 9) where
         pub f32_long_fraction : 9 < d.end - d.fraction → F32.too_long_lem a ≡ f32_of s a b

@@ -293,6 +293,7 @@ fn shifted(text: &[u8], a: usize, b: usize, end: usize, w: usize, f: usize, digi
 }
 
 // The numeral that fills the text between two places.
+#[tactic(auto, using(crate::proofs::Laws::f32_long))]
 fn f32_of(text: &[u8], a: usize, b: usize) -> Numeral
     requires { (a ≤ b) × (b ≤ length text.now) }
     ensures { result ≡ word_of_f32 (f32_of text.now a b) }

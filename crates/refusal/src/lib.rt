@@ -78,6 +78,7 @@ pub fn first_of(a: Checked, b: Checked) -> Checked
 }
 
 // Grounds 1 and 2, on the text given.
+#[tactic(auto, unfolding(crate::specs::Refusal::text_ground))]
 pub fn check_text(text: &[u8]) -> Checked
     ensures { result ≡ text_ground text.now }
 {

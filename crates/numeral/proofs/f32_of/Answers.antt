@@ -6,7 +6,7 @@ use borrow.Author.Rules.{rules}
 use borrow.Author.Tests.{lt-ltb}
 use Rattle.numeral.specs.declared.Decimal.{Decimal}
 use Rattle.numeral.specs.Numeral.{digits_of, split_at, word_of_f32}
-use Rattle.numeral.proofs.Laws.{f32-empty, f32-rest, f32_says, f32-long, f32_long_fraction, f32-number, digits-below}
+use Rattle.numeral.proofs.Laws.{f32-empty, f32-rest, f32_says, f32_long_fraction, f32-number, digits-below}
 use Rattle.numeral.proofs.Exponent.{shift_small, no-zeros, unshifted}
 use Rattle.numeral.proofs.f32_of.Goals as goal
 
@@ -46,11 +46,6 @@ pub returns-then-end-b : goal.returns-then-end-b
 returns-then-end-b c =
     let p = c.before.before in
     ap word_of_f32 (f32-rest _ _ _ _ c.decimal_at-read.ensures.0.is p.if-w-f-eq0.false (rw (lt-ltb _ _ p.if-end-b.true) (sym c.exponent_at.ensures ∙ c.if-exponent_at.false)))
-
-pub returns-then-w-gt9 : goal.returns-then-w-gt9
-returns-then-w-gt9 c =
-    let q = c.decimal_at-read.ensures.0 in
-    ap word_of_f32 (f32-long _ _ _ _ q.is c.if-w-f-eq0.false c.if-end-b.false c.if-w-gt9.true)
 
 pub returns-then-f-gt9 : goal.returns-then-f-gt9
 returns-then-f-gt9 c =

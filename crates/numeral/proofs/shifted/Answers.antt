@@ -38,7 +38,7 @@ module _ (c : After-shift_of the-claims Pre Post) where
   said e =
       let q = c.requires in
       says s a b q.1 (counted-some _ _ _ _ _ _ _ q.2)
-      (e ∙ ap word_of_f32 (exponent-few _ _ _ _ _ _ _ q.2 _ _ c.past-x.ensures.is c.past-e.ensures.is _ _ c.past.ensures.is c.value-n.ensures c.if-b-e-gt2.false))
+      (e ∙ ap word_of_f32 (exponent-few _ _ _ _ _ _ _ q.2 _ _ c.past-x.ensures.is c.past-e.ensures.is _ _ c.past.ensures.is c.value-n.ensures (omega arith)))
 
   -- the digits on both sides
   before-is : c.shift_of-shift.result.before ≡ before (d.whole - d.from) x
@@ -63,7 +63,7 @@ value-n-requires c = (c.past-e.ensures.high, search rules, search rules, search 
 pub shift_of-shift-requires : goal.shift_of-shift-requires
 shift_of-shift-requires c =
     let p = c.requires.2 in
-    let n = exponent_small _ _ _ _ _ _ _ p _ _ c.past-x.ensures.is c.past-e.ensures.is _ _ c.past.ensures.is c.value-n.ensures c.if-b-e-gt2.false in
+    let n = exponent_small _ _ _ _ _ _ _ p _ _ c.past-x.ensures.is c.past-e.ensures.is _ _ c.past.ensures.is c.value-n.ensures (omega arith) in
     let w = p.whole-high in
     let f = p.fraction-high in
     (search rules, search rules, omega arith)
@@ -72,7 +72,10 @@ pub returns-then-before-gt9 : goal.returns-then-before-gt9
 returns-then-before-gt9 c = let p = c.before.before in said p (ap word_of_f32 (limit_before _ _ (x p) _ (rw (before-is p) at c.if-before-gt9.true)))
 
 pub returns-then-behind-gt9 : goal.returns-then-behind-gt9
-returns-then-behind-gt9 c = let p = c.before.before.before in said p (ap word_of_f32 (limit_behind _ _ (x p) _ (rw (before-is p) at c.if-before-gt9.false) (rw (behind-is p) at c.if-behind-gt9.true)))
+returns-then-behind-gt9 c =
+    let p = c.before.before.before in
+    let k : p.shift_of-shift.result.before ≤ 9 = omega arith in
+    said p (ap word_of_f32 (limit_behind _ _ (x p) _ (rw (before-is p) at k) (rw (behind-is p) at c.if-behind-gt9.true)))
 
 pub all_digits-all-requires : goal.all_digits-all-requires
 all_digits-all-requires c =
@@ -92,7 +95,8 @@ shifted_word-requires c =
 pub returns : goal.returns
 returns c =
     let p = c.before.before.before.before.before in
-    let k = rw (before-is p) at c.if-before-gt9.false in
+    let h : p.shift_of-shift.result.before ≤ 9 = omega arith in
+    let k = rw (before-is p) at h in
     let l = rw (behind-is p) at c.if-behind-gt9.false in
     let z = p.shift_of-shift.ensures.2 ∙ counted_zeros_is _ _ _ _ _ _ _ p.requires.2 (x p) in
     said p (shifted_is (s p) (a p) (b p) (d p) (x p) _ _ _ _ c.all_digits-all.ensures z (behind-is p) c.shifted_word.ensures ∙ ap word_of_f32 (limit_number _ _ (x p) _ k l))
