@@ -20,9 +20,9 @@
  * Stack. The most bytes that a call uses, by how many \t stand inside each other in its text or table:
  *
  *                         none       1       8      16
- *     parse_overrides    1,024   1,344   3,200   5,376
- *     parse_raw_block    1,024   1,344   3,200   5,376
- *     evaluate_at        1,088   1,728   6,464  11,840
+ *     parse_overrides    1,024   1,344   3,456   5,888
+ *     parse_raw_block    1,024   1,344   3,456   5,888
+ *     evaluate_at        1,472   2,496   9,536  17,600
  *     next_mark            320     448   1,344   2,368
  *     karaoke_spans        192     320   1,216   2,240
  *     style_in_force       320     448   1,344   2,368
@@ -34,10 +34,10 @@
  * for so many records; 1,024 count:
  *
  *     text of bytes       none       1       8      16
- *      1,024             1,024   1,024   1,024   1,024
- *      4,096             1,024   1,024   1,024   1,024
- *      8,192             1,024   1,024   1,024     898
- *     12,288             1,024   1,024     938     770
+ *      1,024             1,024   1,024   1,024     942
+ *      4,096             1,024   1,024   1,024     846
+ *      8,192             1,024   1,024     970     718
+ *     12,288             1,024   1,024     842     590
  */
 #ifndef HANNUVEL_H
 #define HANNUVEL_H
