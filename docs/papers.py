@@ -15,9 +15,12 @@ os.chdir(os.path.dirname(os.path.dirname(os.path.abspath(__file__))))
 NAMED = ["README.md", "CONTRIBUTING.md", "docs/ARCHITECTURE.md", "docs/DECISIONS.md", "docs/TRACE.md",
          "host/README.md", "host/desk/README.md", "oracle/README.md", "examples/c/README.md"]
 SOURCES = ["crates/**/*.rt", "crates/**/*.antt", "host/**/*.rs", "oracle/**/*.rs", "oracle/*.py", "oracle/*.toml", "include/*"]
-# What is a path; and files of the library that is followed (NOTICE), named by their places there.
+# What is a path; files of the library that is followed (NOTICE), named by their places there; and, in the paper on the
+# port, tools of the kit.
 FILE = r"[\w+-][\w.+-]*(/[\w.+-]+)*(/|\.(md|antt|rt|rs|sh|py|txt|toml|lock|h|c|svg|diff|edit))|\.ci/run"
 ELSEWHERE = {"src/animate.rs", "src/drawing.rs"}
+OF_THE_KIT = {"docs/PORT.md": {"port.py", "contracts.py"}}
+BUILT = {"target", "out"}  # what builds and checks make
 wrong = []
 
 
@@ -31,8 +34,8 @@ def read(path):
 
 
 def there(pattern):
-    """The files and folders of that pattern, without what builds made."""
-    return sorted(p for p in glob.glob(pattern, recursive=True) if "target" not in p.split("/"))
+    """The files and folders of that pattern, without what builds and checks made."""
+    return sorted(p for p in glob.glob(pattern, recursive=True) if BUILT.isdisjoint(p.split("/")))
 
 
 def papers():
@@ -199,7 +202,8 @@ def check_files():
     for paper in papers():
         for place, name in quoted(paper):
             path = name.split(" ")[0].removeprefix("./") if name.startswith("./") else name
-            named = re.fullmatch(FILE, path) and path not in ELSEWHERE and "target" not in path.split("/")
+            outside = ELSEWHERE | OF_THE_KIT.get(paper, set())
+            named = re.fullmatch(FILE, path) and path not in outside and BUILT.isdisjoint(path.split("/"))
             if named and not re.search(re.escape("/" + path).replace("NAME", r"[^/\n]+") + "$", paths, re.M):
                 tell(place, f"`{name}`: there is no such file")
 
