@@ -22,66 +22,54 @@ older() { # FILE THAN..
     [ ! -e "$file" ] || [ -n "$(find "$@" -newer "$file" -print -quit)" ]
 }
 
-# A crate and all those it uses, by crates.txt: how many.
+# A crate and all those it uses, by crates.txt, in the order in which rt takes them: each behind those that it uses.
 needed() { # CRATE
     awk -v crate="$1" '
         function visit(name,    i, n, used) {
             if (!(name in uses) || name in seen) return
             seen[name] = 1
-            count++
             n = split(uses[name], used, " ")
             for (i = 1; i <= n; i++) visit(used[i])
+            print name
         }
         { sub(/#.*/, "") }
         i = index($0, ":") {
-            name = substr($0, 1, i - 1)
-            gsub(/[ \t]/, "", name)
-            uses[name] = substr($0, i + 1)
+            split(substr($0, 1, i - 1), words, " ")
+            uses[words[1]] = substr($0, i + 1)
         }
-        END {
-            visit(crate)
-            print count + 0
-        }' "$root/crates.txt"
+        END { visit(crate) }' "$root/crates.txt"
 }
 
-# Keeps what rt says, and tells how many crates are proved as each one is: on a terminal in one line, written anew.
-# Those that have not changed are counted alone.
-tell() { # LOG CRATES
-    local line news proved=0 form='run.sh: %s\n' wipe=''
+# Keeps what rt says, and tells which of the crates it has come to: on a terminal in one line, written anew. Those that have
+# not changed it does not name.
+tell() { # LOG CRATE..
+    local line name log=$1 count=0 form='run.sh: %s\n' wipe=''
+    local -A place=()
+    shift
+    for name in "$@"; do place[$name]=$((++count)); done
     if [ -t 2 ]; then form='\r\033[Krun.sh: %s' wipe='\r\033[K'; fi
     while IFS= read -r line; do
-        printf '%s\n' "$line" >>"$1"
-        case $line in 'rt: '*' proved ('*) proved=$((proved + 1)) ;; *) continue ;; esac
-        news="$proved of $2 crates: ${line#rt: }"
+        printf '%s\n' "$line" >>"$log"
+        case $line in 'rt: chose --jobs '*' for '*) name=${line##* } ;; *) continue ;; esac
         # shellcheck disable=SC2059
-        case $line in *' proved (unchanged'*) ;; *) printf "$form" "$news" >&2 ;; esac
+        printf "$form" "crate ${place[$name]:-?} of $#: $name" >&2
     done
     # shellcheck disable=SC2059
     printf "$wipe" >&2
 }
 
-# Runs rt and tells of it. Where it fails, the end of what it said is shown.
-run_rt() { # CRATES ARGUMENTS..
-    local log status=0 crates=$1
-    shift
+# Proves the library and writes its archive, telling of it. rt proves again only what has changed. Where it fails, the end of
+# what it said is shown.
+prove() {
+    local log status=0 crates
+    command -v rt >/dev/null || stop "rt is not on the PATH: the Rattle kit is missing"
+    mapfile -t crates < <(needed hannuvel_c)
+    say "proving and building the library, ${#crates[@]} crates, which takes minutes the first time"
     log=$(mktemp)
-    (cd "$root" && rt "$@" 2>&1 </dev/null) | tell "$log" "$crates" || status=$?
+    "$root/tools/archives.sh" hannuvel 2>&1 </dev/null | tell "$log" "${crates[@]}" || status=$?
     [ "$status" -eq 0 ] || tail -n 40 "$log" >&2
     rm -f "$log"
-    [ "$status" -eq 0 ] || stop "rt $* ended with status $status"
-}
-
-# Proves the library and writes its archive. rt proves again only what has changed. rt check proves crates that do not
-# need each other side by side, on up to four cores; rt staticlib, which would prove one after the other, then takes what
-# is proved.
-prove() {
-    local crates
-    command -v rt >/dev/null || stop "rt is not on the PATH: the Rattle kit is missing"
-    crates=$(needed hannuvel)
-    say "proving the library, $crates crates, which takes minutes the first time"
-    run_rt "$crates" check hannuvel
-    say "building the library"
-    run_rt "$crates" staticlib hannuvel
+    [ "$status" -eq 0 ] || stop "tools/archives.sh hannuvel ended with status $status"
 }
 
 build() {
@@ -94,7 +82,9 @@ build() {
 }
 
 [ "$(uname -sm)" = "Linux x86_64" ] || stop "the library is for Linux on x86-64, and this is $(uname -sm)"
-sources=("$root/crates" "$root/crates.txt")
+# (rt writes to crates/*/out whatever it does)
+mapfile -t sources < <(find "$root/crates" -mindepth 2 -maxdepth 2 \( -name src -o -name specs -o -name proofs \))
+sources+=("$root/crates.txt")
 if [ -z "${HANNUVEL_ARCHIVES:-}" ] && older "$archive" "${sources[@]}"; then prove; fi
 [ ! -e "$archive" ] || sources+=("$archive")
 if older "$tool" "${sources[@]}" "$root"/host/{desk,hannuvel,Cargo.toml,Cargo.lock}; then build; fi

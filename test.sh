@@ -25,11 +25,9 @@ done
 docs/papers.py || fail "docs/papers.py ended with status $?"
 docs/citations.py || fail "docs/citations.py ended with status $?"
 
-# ---- rt ci. It removes target/, so its output is kept elsewhere until it has ended.
+# ---- rt ci, plain and over the checkout as it stands
 kept=$(mktemp)
 trap 'rm -f "$kept"' EXIT
-# rt waits for all that it runs at once before it goes on, so that of two at a time one core is often idle.
-export RT_JOBS=${RT_JOBS:-4}
 began=$SECONDS
 set +e
 rt ci 2>&1 | tee "$kept" | sed -u '$d'
@@ -42,11 +40,13 @@ proving=$((SECONDS - began))
 [ "${ended[0]}" -eq 0 ] || fail "rt ci ended with status ${ended[0]}, its last line being: $verdict"
 [ "${ended[1]}${ended[2]}" = 00 ] || fail "rt ci's output could not be kept or shown"
 [[ $verdict =~ ^[1-9][0-9]*\ passed,\ 0\ failed$ ]] || fail "rt ci's last line is: $verdict"
+# A bad edit shows nothing, and rt ci lets it pass.
+ok=$(grep '^rt: ok' "$kept") || fail "rt ci says nowhere 'rt: ok'"
+[[ ! $ok =~ ,\ [0-9]+\ bad ]] || fail "must-fail edits are bad: $ok"
 
-# ---- the Rust side, over what rt ci has proved
+# ---- the archives, and the Rust side over them
 began=$SECONDS
-rt staticlib leaves || fail "rt staticlib leaves ended with status $?"
-rt staticlib hannuvel || fail "rt staticlib hannuvel ended with status $?"
+tools/archives.sh || fail "tools/archives.sh ended with status $?"
 say "the example in C"
 examples/c/check.sh || fail "examples/c/check.sh ended with status $?"
 say "the crate in Rust"

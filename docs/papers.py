@@ -52,7 +52,7 @@ def quoted(paper):
 
 @functools.cache
 def crates():
-    return re.findall(r"^(\w+):", read("crates.txt"), re.M)
+    return re.findall(r"^(\w+)(?: staticlib)?:", read("crates.txt"), re.M)
 
 
 def declares(path, name):
@@ -177,7 +177,7 @@ def check_map():
     mapped = re.findall(r"^\|[^|]*\| `(\w+)` \|", layers[layers.index("\n| layer |"):], re.M)
     for c in sorted(set(crates()) ^ set(mapped)):
         tell("README.md", f"`{c}` stands in crates.txt or in the map, and not in both")
-    for c, used in re.findall(r"^(\w+):(.*)", read("crates.txt"), re.M):
+    for c, used in re.findall(r"^(\w+)(?: staticlib)?:(.*)", read("crates.txt"), re.M):
         for below in set(used.split()) & set(mapped[mapped.index(c):] if c in mapped else ()):
             tell("README.md", f"`{c}` uses `{below}`, which the map has below it")
     for paper in papers()[1:] + there("LICENSE"):

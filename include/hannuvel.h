@@ -2,10 +2,10 @@
  * tags at an instant, the next millisecond at which this state may change, the karaoke syllables and the style in
  * force; and reads drawings into paths.
  *
- * The functions are those of crates/hannuvel, proved and compiled by `rt staticlib hannuvel` into
- * target/staticlib/libhannuvel.a, for programs on x86-64 Linux. They keep nothing between calls, allocate
- * nothing, and can be called from several threads at once on memory that the threads do not share. examples/c has a
- * program that calls them, host/ a Rust crate over them.
+ * The functions are those of crates/hannuvel, exported by crates/hannuvel_c, proved and compiled by
+ * `tools/archives.sh hannuvel` into target/staticlib/libhannuvel.a, for programs on x86-64 Linux. They keep nothing
+ * between calls, allocate nothing, and can be called from several threads at once on memory that the threads do not
+ * share. examples/c has a program that calls them, host/ a Rust crate over them.
  *
  * Lent memory. A slice of Rattle is two arguments: `&[u8]` a pointer and its length in bytes, `&[u32]` and
  * `&mut [u32]` a pointer, aligned to 4 bytes, and its length in 32-bit words; `&mut [u32; 92]` is a pointer to
@@ -20,9 +20,9 @@
  * Stack. The most bytes that a call uses, by how many \t stand inside each other in its text or table:
  *
  *                         none       1       8      16
- *     parse_overrides    1,024   1,344   3,200   5,376
- *     parse_raw_block    1,024   1,344   3,200   5,376
- *     evaluate_at        1,088   1,728   6,464  11,840
+ *     parse_overrides    1,024   1,344   3,456   5,888
+ *     parse_raw_block    1,024   1,344   3,456   5,888
+ *     evaluate_at        1,472   2,496   9,536  17,600
  *     next_mark            320     448   1,344   2,368
  *     karaoke_spans        192     320   1,216   2,240
  *     style_in_force       320     448   1,344   2,368
@@ -34,10 +34,10 @@
  * for so many records; 1,024 count:
  *
  *     text of bytes       none       1       8      16
- *      1,024             1,024   1,024   1,024   1,024
- *      4,096             1,024   1,024   1,024   1,024
- *      8,192             1,024   1,024   1,024     898
- *     12,288             1,024   1,024     938     770
+ *      1,024             1,024   1,024   1,024     942
+ *      4,096             1,024   1,024   1,024     846
+ *      8,192             1,024   1,024     970     718
+ *     12,288             1,024   1,024     842     590
  */
 #ifndef HANNUVEL_H
 #define HANNUVEL_H

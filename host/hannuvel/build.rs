@@ -1,5 +1,5 @@
 //! Links the proved library, target/staticlib/libhannuvel.a of the repository. Where the archive is missing or older
-//! than the sources, `rt staticlib hannuvel` proves and writes it first. The environment variable HANNUVEL_ARCHIVES
+//! than the sources, `tools/archives.sh hannuvel` proves and writes it first. The environment variable HANNUVEL_ARCHIVES
 //! names a folder that holds an archive made elsewhere.
 
 use std::env;
@@ -47,7 +47,7 @@ fn repository() -> PathBuf {
 }
 
 fn made(repository: &Path) -> PathBuf {
-    let sources = [repository.join("crates"), repository.join("crates.txt")];
+    let sources = sources(repository);
     for source in &sources {
         println!("cargo::rerun-if-changed={}", source.display());
     }
@@ -60,6 +60,15 @@ fn made(repository: &Path) -> PathBuf {
     folder
 }
 
+/// What the archive is made of. rt writes beside it, to crates/NAME/out, whatever it does.
+fn sources(repository: &Path) -> Vec<PathBuf> {
+    let crates = fs::read_dir(repository.join("crates")).into_iter().flatten().flatten();
+    let parts = crates.flat_map(|entry| ["src", "specs", "proofs"].map(|part| entry.path().join(part)));
+    let mut found: Vec<PathBuf> = parts.filter(|part| part.is_dir()).collect();
+    found.push(repository.join("crates.txt"));
+    found
+}
+
 /// When a file, or the newest file in a folder, was changed.
 fn newest(path: &Path) -> Option<SystemTime> {
     let Ok(entries) = fs::read_dir(path) else {
@@ -68,41 +77,40 @@ fn newest(path: &Path) -> Option<SystemTime> {
     entries.flatten().filter_map(|entry| newest(&entry.path())).max()
 }
 
-/// Proves and writes the archive by `rt staticlib` alone, which needs nothing done before: where nothing is proved yet
-/// it proves one crate after the other. `rt check hannuvel` beforehand, as in run.sh, proves crates side by side, and
-/// this then takes what was proved.
+/// Proves and writes the archive, which needs nothing done before: rt proves one crate after the other, each behind those
+/// that it uses, and takes what is proved already.
 fn prove(repository: &Path) {
     let mut teller = Teller::new();
     teller.tell("proving and building the library, which takes minutes the first time");
     let mut said = Vec::new();
-    let ended = run_rt(repository, |line| {
-        if let Some(news) = line.strip_prefix("rt: ").filter(|news| !news.contains("unchanged")) {
-            teller.tell(news);
+    let ended = run_archives(repository, |line| {
+        if let Some((_, name)) = line.strip_prefix("rt: chose --jobs ").and_then(|rest| rest.rsplit_once(' ')) {
+            teller.tell(&format!("proving {name}"));
         }
         said.push(line);
     });
     teller.wipe();
     match ended {
         Ok(status) if status.success() => {}
+        Ok(status) if status.code() == Some(127) => stop(
+            "rt is not on the PATH. The library is proved and built with the Rattle kit: put its rt on the PATH, or \
+             name a folder that holds libhannuvel.a in the environment variable HANNUVEL_ARCHIVES",
+        ),
         Ok(status) => {
             for line in &said[said.len().saturating_sub(40)..] {
                 println!("cargo::error={line}");
             }
-            stop(&format!("rt staticlib hannuvel: {status}"));
+            stop(&format!("tools/archives.sh hannuvel: {status}"));
         }
-        Err(error) if error.kind() == io::ErrorKind::NotFound => stop(
-            "rt is not on the PATH. The library is proved and built with the Rattle kit: put its rt on the PATH, or \
-             name a folder that holds libhannuvel.a in the environment variable HANNUVEL_ARCHIVES",
-        ),
-        Err(error) => stop(&format!("rt does not run: {error}")),
+        Err(error) => stop(&format!("tools/archives.sh does not run: {error}")),
     }
 }
 
-/// Runs rt and hands on each line that it says, on either stream.
-fn run_rt(repository: &Path, mut hear: impl FnMut(String)) -> io::Result<ExitStatus> {
+/// Runs tools/archives.sh and hands on each line that it says, on either stream.
+fn run_archives(repository: &Path, mut hear: impl FnMut(String)) -> io::Result<ExitStatus> {
     let (lines, said) = io::pipe()?;
-    let mut run = Command::new("rt")
-        .args(["staticlib", "hannuvel"])
+    let mut run = Command::new(repository.join("tools/archives.sh"))
+        .arg("hannuvel")
         .current_dir(repository)
         .stdin(Stdio::null())
         .stdout(said.try_clone()?)

@@ -1,4 +1,4 @@
-// The C interface, declared in include/hannuvel.h. A call answers one number: bits 48 to 63 the refusal's ground, 0 for none; bits 32 to 47 an extra; bits 0 to 31 the value, or the refusal's place or count.
+// The calls of the C interface, which include/hannuvel.h declares and `hannuvel_c` exports. A call answers one number: bits 48 to 63 the refusal's ground, 0 for none; bits 32 to 47 an extra; bits 0 to 31 the value, or the refusal's place or count.
 #![tactic(auto)]
 
 ghost use Rattle.std.specs.Prelude.{◌≡◌, ◌≤◌};
@@ -29,24 +29,21 @@ fn packed_answer(r: refusal::Answer) -> u64
 }
 
 // Reads a block into a table; braces are ordinary bytes. The value is the number of records written.
-#[unsafe(no_mangle)]
-pub extern "C" fn hannuvel_parse_overrides(text: &[u8], table: &mut [u32]) -> u64
+pub fn hannuvel_parse_overrides(text: &[u8], table: &mut [u32]) -> u64
     ensures { ReadingCall text.now (whole_text text.now) table.old result table.new }
 {
     packed_answer(read::parse_overrides(text, table))
 }
 
 // The same for the text trimmed, less one { and one }; offsets count from the text given.
-#[unsafe(no_mangle)]
-pub extern "C" fn hannuvel_parse_raw_block(text: &[u8], table: &mut [u32]) -> u64
+pub fn hannuvel_parse_raw_block(text: &[u8], table: &mut [u32]) -> u64
     ensures { ReadingCall text.now (less_braces text.now) table.old result table.new }
 {
     packed_answer(read::parse_raw_block(text, table))
 }
 
 // The path of a drawing at a scale exponent. The value is the number of commands written.
-#[unsafe(no_mangle)]
-pub extern "C" fn hannuvel_parse_drawing(text: &[u8], exponent: u32, path: &mut [u32]) -> u64
+pub fn hannuvel_parse_drawing(text: &[u8], exponent: u32, path: &mut [u32]) -> u64
     ensures { DrawingCall text.now exponent path.old result path.new }
 {
     packed_answer(drawing::parse_drawing(text, exponent, path))
@@ -63,21 +60,14 @@ fn packed_clip(c: clips::Clip) -> u64
 }
 
 // A clip argument. The value is the scale, the extra the offset at which the rest of the argument begins.
-#[unsafe(no_mangle)]
-pub extern "C" fn hannuvel_split_clip_arg(text: &[u8]) -> u64
+pub fn hannuvel_split_clip_arg(text: &[u8]) -> u64
     ensures { ClipCall text.now result }
 {
     packed_clip(clips::clip_at(text))
 }
 
 // The state at t of the tags that a table stands for, in a line of that duration, as its 92 words.
-#[unsafe(no_mangle)]
-pub extern "C" fn hannuvel_evaluate_at(
-    table: &[u32],
-    t: i32,
-    duration: i32,
-    state: &mut [u32; 92],
-) -> u64
+pub fn hannuvel_evaluate_at(table: &[u32], t: i32, duration: i32, state: &mut [u32; 92]) -> u64
     ensures { EvaluatingCall table.now t duration state.old result state.new }
 {
     match evaluate::write_at(table, t, duration, state) {
@@ -99,16 +89,14 @@ fn packed_marked(m: marks::Marked) -> u64
 }
 
 // The earliest mark after t of the tags that a table stands for, in a line of that duration. The value is the mark in two's complement, the extra 1 where there is none.
-#[unsafe(no_mangle)]
-pub extern "C" fn hannuvel_next_mark(table: &[u32], t: i32, duration: i32) -> u64
+pub fn hannuvel_next_mark(table: &[u32], t: i32, duration: i32) -> u64
     ensures { MarkingCall table.now t duration result }
 {
     packed_marked(marks::next_mark(table, t, duration))
 }
 
 // The karaoke spans of the tags that a table stands for, three words a span: kind, start, end. The value is the number of spans written.
-#[unsafe(no_mangle)]
-pub extern "C" fn hannuvel_karaoke_spans(table: &[u32], spans: &mut [u32]) -> u64
+pub fn hannuvel_karaoke_spans(table: &[u32], spans: &mut [u32]) -> u64
     ensures { SpansCall table.now spans.old result spans.new }
 {
     packed_answer(karaoke::write_spans(table, spans))
@@ -134,8 +122,7 @@ fn packed_progress(p: karaoke::Progressed) -> u64
 }
 
 // How far the instant t is in a span from start to end. The value is the f32's bits.
-#[unsafe(no_mangle)]
-pub extern "C" fn hannuvel_progress(start: u32, end: u32, t: i32) -> u64
+pub fn hannuvel_progress(start: u32, end: u32, t: i32) -> u64
     ensures { ProgressCall start end t result }
 {
     packed_progress(karaoke::progress(span_from(start, end), t))
@@ -163,8 +150,7 @@ fn packed_style(p: style::Place) -> u64
 }
 
 // The style in force at t: the name that \r gave, a part of the block, or the line's own. The value is the part's offset and length, the extra 1 for a part of the block.
-#[unsafe(no_mangle)]
-pub extern "C" fn hannuvel_style_in_force<'a>(
+pub fn hannuvel_style_in_force<'a>(
     table: &[u32],
     t: i32,
     duration: i32,

@@ -1,5 +1,6 @@
-// The leaf functions as C calls, for tests. A text of more than 12,288 bytes is not read.
+// The leaf functions with words for what they take and give, as tests call them; `leaves_c` exports each to C. A text of more than 12,288 bytes is not read.
 #![tactic(auto)]
+
 ghost use Rattle.std.specs.Prelude.{◌≡◌, true, false, ◌≤◌, pos, length};
 ghost use Rattle.std.specs.Float.{binary32};
 ghost use Rattle.std.specs.Float.Ieee.{of_int, to_signed, to_unsigned};
@@ -18,8 +19,7 @@ fn packed(n: numeral::Numeral) -> u64
     }
 }
 
-#[unsafe(no_mangle)]
-pub extern "C" fn hannuvel_leaf_numeral(text: &[u8]) -> u64
+pub fn hannuvel_leaf_numeral(text: &[u8]) -> u64
     ensures { result ≡ leaf numeral_leaf text.now }
 {
     let n = text.len();
@@ -29,8 +29,7 @@ pub extern "C" fn hannuvel_leaf_numeral(text: &[u8]) -> u64
     packed(numeral::f32_at(text, 0, n))
 }
 
-#[unsafe(no_mangle)]
-pub extern "C" fn hannuvel_leaf_i32(text: &[u8]) -> u64
+pub fn hannuvel_leaf_i32(text: &[u8]) -> u64
     ensures { result ≡ leaf i32_leaf text.now }
 {
     let n = text.len();
@@ -40,8 +39,7 @@ pub extern "C" fn hannuvel_leaf_i32(text: &[u8]) -> u64
     packed(numeral::i32_at(text, 0, n))
 }
 
-#[unsafe(no_mangle)]
-pub extern "C" fn hannuvel_leaf_hexadecimal(text: &[u8]) -> u64
+pub fn hannuvel_leaf_hexadecimal(text: &[u8]) -> u64
     ensures { result ≡ leaf hex_leaf text.now }
 {
     let n = text.len();
@@ -51,8 +49,7 @@ pub extern "C" fn hannuvel_leaf_hexadecimal(text: &[u8]) -> u64
     packed(numeral::hex_at(text, 0, n))
 }
 
-#[unsafe(no_mangle)]
-pub extern "C" fn hannuvel_leaf_alpha(text: &[u8]) -> u64
+pub fn hannuvel_leaf_alpha(text: &[u8]) -> u64
     ensures { result ≡ leaf alpha_leaf text.now }
 {
     let n = text.len();
@@ -72,8 +69,7 @@ fn packed_colour(c: colour::Colour) -> u64
     }
 }
 
-#[unsafe(no_mangle)]
-pub extern "C" fn hannuvel_leaf_colour(text: &[u8]) -> u64
+pub fn hannuvel_leaf_colour(text: &[u8]) -> u64
     ensures { result ≡ leaf colour_leaf text.now }
 {
     let n = text.len();
@@ -84,8 +80,7 @@ pub extern "C" fn hannuvel_leaf_colour(text: &[u8]) -> u64
 }
 
 // Where the text starts, << 32, and ends, less the blanks at both ends.
-#[unsafe(no_mangle)]
-pub extern "C" fn hannuvel_leaf_trim(text: &[u8]) -> u64
+pub fn hannuvel_leaf_trim(text: &[u8]) -> u64
     ensures { result ≡ leaf trim_leaf text.now }
 {
     let n = text.len();
@@ -98,8 +93,7 @@ pub extern "C" fn hannuvel_leaf_trim(text: &[u8]) -> u64
 }
 
 // The place of the parenthesis that closes one open before the text.
-#[unsafe(no_mangle)]
-pub extern "C" fn hannuvel_leaf_parenthesis(text: &[u8]) -> u64
+pub fn hannuvel_leaf_parenthesis(text: &[u8]) -> u64
     ensures { result ≡ leaf closing_leaf text.now }
 {
     let n = text.len();
@@ -159,8 +153,7 @@ fn list(text: &[u8], whole: bool, out: &mut [u32]) -> u64
 }
 
 // The parts of a list of floats: 1 << 32 where all are numbers, and their count; out is lent eight words or more for the first seven and the place of the first that is too long.
-#[unsafe(no_mangle)]
-pub extern "C" fn hannuvel_leaf_floats(text: &[u8], out: &mut [u32]) -> u64
+pub fn hannuvel_leaf_floats(text: &[u8], out: &mut [u32]) -> u64
     ensures value { result ≡ leaf (list_leaf false) text.now }
     ensures out_after { out.new ≡ list_words false text.now out.old }
 {
@@ -168,8 +161,7 @@ pub extern "C" fn hannuvel_leaf_floats(text: &[u8], out: &mut [u32]) -> u64
 }
 
 // The same of a list of whole numbers.
-#[unsafe(no_mangle)]
-pub extern "C" fn hannuvel_leaf_ints(text: &[u8], out: &mut [u32]) -> u64
+pub fn hannuvel_leaf_ints(text: &[u8], out: &mut [u32]) -> u64
     ensures value { result ≡ leaf (list_leaf true) text.now }
     ensures out_after { out.new ≡ list_words true text.now out.old }
 {
@@ -197,8 +189,7 @@ fn finite(x: f32) -> bool
     }
 }
 
-#[unsafe(no_mangle)]
-pub extern "C" fn hannuvel_leaf_root(a: u32) -> u32
+pub fn hannuvel_leaf_root(a: u32) -> u32
     ensures { result ≡ root_leaf (of a) }
 {
     let x = float::f32_of_word(a);
@@ -208,8 +199,7 @@ pub extern "C" fn hannuvel_leaf_root(a: u32) -> u32
     0x7FC00000
 }
 
-#[unsafe(no_mangle)]
-pub extern "C" fn hannuvel_leaf_power(x: u32, a: u32) -> u32
+pub fn hannuvel_leaf_power(x: u32, a: u32) -> u32
     ensures { result ≡ power_leaf (of x) (of a) }
 {
     let base = float::f32_of_word(x);
@@ -222,8 +212,7 @@ pub extern "C" fn hannuvel_leaf_power(x: u32, a: u32) -> u32
     0x7FC00000
 }
 
-#[unsafe(no_mangle)]
-pub extern "C" fn hannuvel_leaf_lerp(a: u32, b: u32, k: u32) -> u32
+pub fn hannuvel_leaf_lerp(a: u32, b: u32, k: u32) -> u32
     ensures { result ≡ to (lerp (of a) (of b) (of k)) }
 {
     float::word_of_f32(float::lerp_f32(
@@ -233,8 +222,7 @@ pub extern "C" fn hannuvel_leaf_lerp(a: u32, b: u32, k: u32) -> u32
     ))
 }
 
-#[unsafe(no_mangle)]
-pub extern "C" fn hannuvel_leaf_clamp(x: u32, lo: u32, hi: u32) -> u32
+pub fn hannuvel_leaf_clamp(x: u32, lo: u32, hi: u32) -> u32
     ensures { result ≡ to (clamp (of x) (of lo) (of hi)) }
 {
     float::word_of_f32(float::clamp(
@@ -244,22 +232,19 @@ pub extern "C" fn hannuvel_leaf_clamp(x: u32, lo: u32, hi: u32) -> u32
     ))
 }
 
-#[unsafe(no_mangle)]
-pub extern "C" fn hannuvel_leaf_max_zero(x: u32) -> u32
+pub fn hannuvel_leaf_max_zero(x: u32) -> u32
     ensures { result ≡ to (max_zero (of x)) }
 {
     float::word_of_f32(float::max_zero(float::f32_of_word(x)))
 }
 
-#[unsafe(no_mangle)]
-pub extern "C" fn hannuvel_leaf_radians(x: u32) -> u32
+pub fn hannuvel_leaf_radians(x: u32) -> u32
     ensures { result ≡ to (to_radians (of x)) }
 {
     float::word_of_f32(float::to_radians(float::f32_of_word(x)))
 }
 
-#[unsafe(no_mangle)]
-pub extern "C" fn hannuvel_leaf_round(x: u32) -> u32
+pub fn hannuvel_leaf_round(x: u32) -> u32
     ensures { result ≡ whole_leaf round_away (of x) }
 {
     if float::in_reach(x) {
@@ -268,8 +253,7 @@ pub extern "C" fn hannuvel_leaf_round(x: u32) -> u32
     0x80000000
 }
 
-#[unsafe(no_mangle)]
-pub extern "C" fn hannuvel_leaf_cut(x: u32) -> u32
+pub fn hannuvel_leaf_cut(x: u32) -> u32
     ensures { result ≡ whole_leaf (to_signed 31) (of x) }
 {
     if float::in_reach(x) {
@@ -278,36 +262,31 @@ pub extern "C" fn hannuvel_leaf_cut(x: u32) -> u32
     0x80000000
 }
 
-#[unsafe(no_mangle)]
-pub extern "C" fn hannuvel_leaf_cut_byte(x: u32) -> u32
+pub fn hannuvel_leaf_cut_byte(x: u32) -> u32
     ensures { result ≡ to_unsigned 8 (of x) }
 {
     float::cut_byte(float::f32_of_word(x)) as u32
 }
 
-#[unsafe(no_mangle)]
-pub extern "C" fn hannuvel_leaf_round_byte(x: u32) -> u32
+pub fn hannuvel_leaf_round_byte(x: u32) -> u32
     ensures { result ≡ round_byte (of x) }
 {
     float::round_byte(float::f32_of_word(x)) as u32
 }
 
-#[unsafe(no_mangle)]
-pub extern "C" fn hannuvel_leaf_nearest_i32(w: u32) -> u32
+pub fn hannuvel_leaf_nearest_i32(w: u32) -> u32
     ensures { result ≡ to (of_int binary32 (of_word w)) }
 {
     float::word_of_f32(float::nearest_i32(float::of_word(w)))
 }
 
-#[unsafe(no_mangle)]
-pub extern "C" fn hannuvel_leaf_nearest_u32(w: u32) -> u32
+pub fn hannuvel_leaf_nearest_u32(w: u32) -> u32
     ensures { result ≡ to (of_int binary32 (pos w)) }
 {
     float::word_of_f32(float::nearest_u32(w))
 }
 
-#[unsafe(no_mangle)]
-pub extern "C" fn hannuvel_leaf_in_reach(w: u32) -> u32
+pub fn hannuvel_leaf_in_reach(w: u32) -> u32
     ensures { result ≡ pick (in_reach_lem (of w)) 1 0 }
 {
     if float::in_reach(w) { 1 } else { 0 }

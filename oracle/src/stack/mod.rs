@@ -10,7 +10,7 @@ use painted::{Arguments, Painted};
 
 /// Evaluation, and the most bytes that each level of \t may add in it.
 const EVALUATE: &str = "evaluate_at";
-const LEVEL: usize = 740;
+const LEVEL: usize = 1_076;
 
 /// `None`: the archives lack it.
 type Function = Option<*const ()>;
@@ -60,7 +60,7 @@ fn text_rows(inputs: &mut Inputs) -> Vec<Row> {
     let clip = library::hannuvel_split_clip_arg().map(|call| call as *const ());
     let words = &mut inputs.words;
     let blocks = inputs.blocks.each_ref().map(|texts| reading(texts, words));
-    let most = [1_024, 1_344, 3_200, 5_376];
+    let most = [1_024, 1_344, 3_456, 5_888];
     let mut rows = Vec::new();
     rows.extend(by_depth("parse_overrides", overrides, &blocks, most));
     rows.extend(by_depth("parse_raw_block", raw, &blocks, most));
@@ -80,7 +80,7 @@ fn table_rows(inputs: &mut Inputs) -> Vec<Row> {
     let lines = inputs.tables.each_ref().map(|tables| lines(tables, words));
     let spans = inputs.tables.each_ref().map(|tables| spans(tables, words));
     let styles = lines.each_ref().map(|lines| styles(lines, block, own));
-    let most = [1_088, 1_728, 6_464, 11_840];
+    let most = [1_472, 2_496, 9_536, 17_600];
     let mut rows = Vec::new();
     rows.extend(by_depth(EVALUATE, evaluate, &lines, most));
     let most = [320, 448, 1_344, 2_368];
