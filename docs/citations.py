@@ -17,7 +17,7 @@ from pathlib import Path
 ROOT = Path(__file__).resolve().parent.parent
 PLACES = ["crates", "docs", "README.md", "CONTRIBUTING.md", "include", "host", "oracle", "examples"]
 KINDS = {".antt", ".rt", ".edit", ".md", ".h", ".c", ".rs", ".py", ".sh"}
-NOT_OURS = {"target", "upstream", "built", "citations.py"}
+NOT_OURS = {"target", "out", "upstream", "built", "citations.py"}
 
 BEGINS = re.compile(r"^\s*(?:--+|//[/!]?|/?\*+/?|#+)\s?")  # what a line of a comment begins with
 COMMENT = re.compile(r"(?:^|\s)--+\s(.*)")
