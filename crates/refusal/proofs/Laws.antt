@@ -14,15 +14,12 @@ use Rattle.scan.specs.declared.Class.TheVariants.{Below}
 use Rattle.scan.proofs.Laws.{picked, le_or_lt}
 use Rattle.scan.proofs.Bounds.{tested}
 use Rattle.refusal.specs.declared.Refusal.TheVariants.{NoRoom}
-use Rattle.refusal.specs.declared.Checked.{Checked}
-use Rattle.refusal.specs.declared.Checked.TheVariants.{Good, Bad}
-use Rattle.refusal.specs.declared.Answer.{Answer}
-use Rattle.refusal.specs.declared.Answer.TheVariants.{Written, Refused}
-use Rattle.refusal.specs.Refusal.{place_of, most_bytes, most_places, text_ground}
-use Rattle.refusal.specs.Answer.{ground_of, answer_value, room_for, unless_bad}
+use Rattle.std.specs.Prelude.{Ok, Err}
+use Rattle.refusal.specs.Refusal.{Checked, place_of, most_bytes, most_places, text_ground}
+use Rattle.refusal.specs.Answer.{Answer, ground_of, answer_value, room_for, unless_bad}
 
 -- a text with no ground 1 is short
-pub good-short : (s : List ℕ) → text_ground s ≡ Good → length s ≤ most_bytes
+pub good-short : (s : List ℕ) → text_ground s ≡ Ok tt → length s ≤ most_bytes
 unfolding text_ground
 good-short s e =
     ⊎_elim
@@ -33,8 +30,8 @@ good-short s e =
 -- ---- 01, Grounds: "Each gives its number and the stated place or count (else 0)": that is no more than the text has bytes, and no more than 12,288
 
 abbrev pub place_in : Checked → ℕ
-place_in Good = 0
-place_in (Bad r) = place_of r
+place_in (Ok _) = 0
+place_in (Err r) = place_of r
 
 abbrev pub Within : List ℕ → Answer → Type 0
 Within s a = (place_in (ground_of a) ≤ length s) × (place_in (ground_of a) ≤ most_bytes)
@@ -58,21 +55,21 @@ text-within s a h =
 -- ---- an answer counts at most 1,024
 
 abbrev pub Few : Answer → Type 0
-Few (Written n) = n ≤ most_places
-Few (Refused r) = Unit
+Few (Ok n) = n ≤ most_places
+Few (Err r) = Unit
 
 pub room-few : (n places : ℕ) → Few (room_for n places)
 room-few n places = go (leb n (min places most_places)) refl
   where
-    go : (b : Bool) → leb n (min places most_places) ≡ b → Few (pick b (Written n) (Refused (NoRoom n)))
+    go : (b : Bool) → leb n (min places most_places) ≡ b → Few (pick b (Ok n) (Err (NoRoom n)))
     go true e = omega (arith, leb-true n (min places most_places) e)
     go false e = tt
 
 pub unless-few : (c : Checked) (a : Answer) → Few a → Few (unless_bad c a)
-unless-few Good a h = h
-unless-few (Bad r) a h = tt
+unless-few (Ok _) a h = h
+unless-few (Err r) a h = tt
 
 -- so its value is at most 12,288
 pub value-small : (s : List ℕ) (a : Answer) → Few a → Within s a → answer_value a ≤ most_bytes
-value-small s (Written n) f h = le_trans f (lit≤ tt)
-value-small s (Refused r) f h = h.1
+value-small s (Ok n) f h = le_trans f (lit≤ tt)
+value-small s (Err r) f h = h.1

@@ -1,10 +1,8 @@
 -- 01, Grounds for turning a call down: the number of each, and the place or count stated beside it, else 0.
-use Rattle.std.specs.Prelude.{List, ℕ, ltb, length}
+use Rattle.std.specs.Prelude.{List, ℕ, ltb, length, Result, Ok, Err}
 use Rattle.scan.specs.Scan.{pick, in_class, span_to}
 use Rattle.scan.specs.declared.Class.TheVariants.{Below}
 use Rattle.refusal.specs.declared.Refusal.{Refusal}
-use Rattle.refusal.specs.declared.Checked.{Checked}
-use Rattle.refusal.specs.declared.Checked.TheVariants.{Good, Bad}
 use Rattle.refusal.specs.declared.Refusal.TheVariants.{TextTooLong, NotAscii, NumeralTooLong, FadeTooFar, TableMalformed, TimeOutOfRange, ScaleTooLarge, NameBeyondText, NoRoom}
 
 abbrev pub number_of : Refusal → ℕ
@@ -29,6 +27,10 @@ place_of ScaleTooLarge = 0
 place_of NameBeyondText = 0
 place_of (NoRoom n) = n
 
+-- what a check finds: nothing against a call, or a ground
+abbrev pub Checked : Type 0
+Checked = Result (Unit {0}) Refusal
+
 -- the limits
 abbrev pub most_bytes : ℕ
 most_bytes = 12288
@@ -40,4 +42,4 @@ most_places = 1024
 unfoldable pub text_ground : List ℕ → Checked
 text_ground s =
     let a = span_to (in_class (Below 128)) s 0 (length s) in
-    pick (ltb most_bytes (length s)) (Bad TextTooLong) (pick (ltb a (length s)) (Bad (NotAscii a)) Good)
+    pick (ltb most_bytes (length s)) (Err TextTooLong) (pick (ltb a (length s)) (Err (NotAscii a)) (Ok tt))

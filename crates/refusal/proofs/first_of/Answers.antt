@@ -1,7 +1,0 @@
-use Rattle.refusal.proofs.first_of.Goals as goal
-
-pub returns-in-Good : goal.returns-in-Good
-returns-in-Good c = rw c.in-Good.is
-
-pub returns-in-Bad : goal.returns-in-Bad
-returns-in-Bad c = rw c.in-Bad.is
