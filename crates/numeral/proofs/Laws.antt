@@ -13,8 +13,7 @@ use lib.IntN.{ℤ, pos, neg_ℤ}
 use lib.Ieee.{Float}
 use lib.Pow.{pow-add}
 use borrow.Author.Tests.{eq-eqb, ne_eqb, lt-ltb, le-ltb, le-leb, lt-leb, ltb-true}
-use Rattle.scan.specs.Scan.{pick, digit_of, in_class, span, span_to, past}
-use Rattle.scan.specs.declared.Class.TheVariants.{Digit}
+use Rattle.scan.specs.Scan.{pick, digit_of, digit, span, span_to, past}
 use Rattle.scan.proofs.Laws.{le_or_lt, more, none, span-low, digit-below, digit-decimal, digit-between, digit_upper, digit_middle, digit-lower, digit-above, no-decimal}
 use Rattle.float.specs.Float.{to_word}
 use Rattle.numeral.specs.declared.Numeral.TheVariants.{No, Word}
@@ -74,7 +73,7 @@ module _ (radix : ℕ) (s : List ℕ) where
   value_turn r m i e a b h q = rw (q, value-capped r m (e - (i + 1)) (i + 1) (a * radix + digit_of (get_or s i 0)), value_go i e a h)
 
   -- the digits of a span write less than the radix to the power of their number
-  pub value-below : 0 < radix → (n i a j : ℕ) → j ≡ span (in_class (Digit radix)) s n i → value radix s (j - i) i a < (a + 1) * radix ^ (j - i)
+  pub value-below : 0 < radix → (n i a j : ℕ) → j ≡ span (digit radix) s n i → value radix s (j - i) i a < (a + 1) * radix ^ (j - i)
   unfolding span
   value-below r zero i a j q =
       let z : j - i ≡ 0 = omega arith in
@@ -84,10 +83,10 @@ module _ (radix : ℕ) (s : List ℕ) where
       d : ℕ
       d = digit_of (get_or s i 0)
 
-      go : (t : Bool) → ltb d radix ≡ t → (j ≡ span (in_class (Digit radix)) s n (i + 1) → value radix s (j - (i + 1)) (i + 1) (a * radix + d) < (a * radix + d + 1) * radix ^ (j - (i + 1))) → value radix s (j - i) i a < (a + 1) * radix ^ (j - i)
+      go : (t : Bool) → ltb d radix ≡ t → (j ≡ span (digit radix) s n (i + 1) → value radix s (j - (i + 1)) (i + 1) (a * radix + d) < (a * radix + d + 1) * radix ^ (j - (i + 1))) → value radix s (j - i) i a < (a + 1) * radix ^ (j - i)
       go true w f =
-          let k : j ≡ span (in_class (Digit radix)) s n (i + 1) = rw w at q in
-          let l : i + 1 ≤ j = rw k (span-low (in_class (Digit radix)) s n (i + 1)) in
+          let k : j ≡ span (digit radix) s n (i + 1) = rw w at q in
+          let l : i + 1 ≤ j = rw k (span-low (digit radix) s n (i + 1)) in
           let h : i < j = omega arith in
           rw (value_go i j a h, more i j h, pow-succ') (one_more radix (radix ^ (j - (i + 1))) a d (ltb-true d radix w) (f k))
       go false w f =

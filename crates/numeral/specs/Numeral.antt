@@ -2,8 +2,7 @@
 use Rattle.std.specs.Prelude.{List, Bool, true, false, ℕ, zero, suc, ◌+◌, ◌-◌, ◌*◌, ◌^◌, get_or, ltb, leb, eqb, ℤ, pos, negsuc, neg_ℤ, Float}
 use Rattle.std.specs.Float.{binary32}
 use Rattle.std.specs.Float.Ieee.{round, to_bits}
-use Rattle.scan.specs.Scan.{pick, digit_of, in_class, span_to, past, trim_start, trim_end}
-use Rattle.scan.specs.declared.Class.TheVariants.{Digit, Is, Either}
+use Rattle.scan.specs.Scan.{pick, digit_of, digit, only, one_of, span_to, past, trim_start, trim_end}
 use Rattle.float.specs.Float.{to_word}
 use Rattle.numeral.specs.declared.Numeral.{Numeral}
 use Rattle.numeral.specs.declared.Numeral.TheVariants.{No, TooLong, Word}
@@ -11,22 +10,22 @@ use Rattle.numeral.specs.declared.Decimal.{Decimal}
 
 -- the classes of bytes that numbers are made of
 abbrev pub is_digit : ℕ → Bool
-is_digit b = in_class (Digit 10) b
+is_digit b = digit 10 b
 
 abbrev pub is_sign : ℕ → Bool
-is_sign b = in_class (Either 43 45) b
+is_sign b = one_of 43 45 b
 
 abbrev pub is_minus : ℕ → Bool
-is_minus b = in_class (Is 45) b
+is_minus b = only 45 b
 
 abbrev pub is_plus : ℕ → Bool
-is_plus b = in_class (Is 43) b
+is_plus b = only 43 b
 
 abbrev pub is_point : ℕ → Bool
-is_point b = in_class (Is 46) b
+is_point b = only 46 b
 
 abbrev pub is_e : ℕ → Bool
-is_e b = in_class (Either 69 101) b
+is_e b = one_of 69 101 b
 
 -- the number that n digits of a radix from i on write behind a
 unfoldable pub value : ℕ → List ℕ → ℕ → ℕ → ℕ → ℕ
@@ -39,7 +38,7 @@ most = 1000000000000000000
 
 -- the whole number that fills the text from i to e, at least one digit; `most` where there is none
 unfoldable pub whole_number : ℕ → List ℕ → ℕ → ℕ → ℕ
-whole_number radix s i e = pick (ltb i e) (pick (eqb (span_to (in_class (Digit radix)) s i e) e) (value radix s (e - i) i 0) most) most
+whole_number radix s i e = pick (ltb i e) (pick (eqb (span_to (digit radix) s i e) e) (value radix s (e - i) i 0) most) most
 
 -- an i32, or none
 pub data I32 : Type 0 where

@@ -54,7 +54,7 @@ pub fn whole_number(text: &[u8], radix: u8, from: usize, to: usize) -> u64
     ensures { result ≡ min most (whole_number radix text.now from to) }
 {
     if from < to {
-        if scan::span(text, scan::Class::Digit(radix), from, to) == to {
+        if scan::span(text, scan::Digit(radix), from, to) == to {
             return value(text, radix, from, to, 0);
         }
     }
@@ -71,10 +71,10 @@ pub fn i32_at(text: &[u8], p: usize, q: usize) -> Numeral
     let v = whole_number(
         text,
         10,
-        scan::past(text, scan::Class::Either(43, 45), a, b),
+        scan::past(text, scan::Either(43, 45), a, b),
         b,
     );
-    if scan::past(text, scan::Class::Is(45), a, b) == a {
+    if scan::past(text, scan::Is(45), a, b) == a {
         return up_to(v, 2147483647);
     }
     if v == 0 {
@@ -102,7 +102,7 @@ pub fn hex_at(text: &[u8], a: usize, b: usize) -> Numeral
     ensures { result ≡ hex_at text.now a b }
 {
     up_to(
-        whole_number(text, 16, scan::past(text, scan::Class::Is(43), a, b), b),
+        whole_number(text, 16, scan::past(text, scan::Is(43), a, b), b),
         4294967295,
     )
 }
@@ -150,7 +150,7 @@ fn run_at(text: &[u8], from: usize, to: usize, start: u64) -> Run
     }
     if i < to {
         return Run {
-            end: scan::span(text, scan::Class::Digit(10), i, to),
+            end: scan::span(text, scan::Digit(10), i, to),
             value: a,
         };
     }
@@ -162,10 +162,10 @@ fn decimal_at(text: &[u8], a: usize, b: usize) -> Written
     requires { (a ≤ b) × (b ≤ length text.now) }
     ensures { Split text.now a b result.at × (result.at.whole - result.at.from ≤ 9 → result.at.end - result.at.fraction ≤ 9 → result.digits ≡ value_of 10 text.now (result.at.end - result.at.fraction) result.at.fraction (value_of 10 text.now (result.at.whole - result.at.from) result.at.from 0)) }
 {
-    let from = scan::past(text, scan::Class::Either(43, 45), a, b);
+    let from = scan::past(text, scan::Either(43, 45), a, b);
     let w = run_at(text, from, b, 0);
     let whole = w.end;
-    let fraction = scan::past(text, scan::Class::Is(46), whole, b);
+    let fraction = scan::past(text, scan::Is(46), whole, b);
     let f = run_at(text, fraction, b, w.value);
     let at = Decimal {
         from,
@@ -184,11 +184,11 @@ fn exponent_at(text: &[u8], i: usize, b: usize) -> bool
     requires { (i ≤ b) × (b ≤ length text.now) }
     ensures { result ≡ exponent_at text.now i b }
 {
-    let x = scan::past(text, scan::Class::Either(69, 101), i, b);
-    let d = scan::past(text, scan::Class::Either(43, 45), x, b);
+    let x = scan::past(text, scan::Either(69, 101), i, b);
+    let d = scan::past(text, scan::Either(43, 45), x, b);
     if i < x {
         if d < b {
-            return scan::span(text, scan::Class::Digit(10), d, b) == b;
+            return scan::span(text, scan::Digit(10), d, b) == b;
         }
     }
     false
@@ -199,7 +199,7 @@ fn decimal_word(text: &[u8], a: usize, b: usize, digits: u64, tens: usize) -> u3
     requires { (a ≤ b) × (b ≤ length text.now) × (digits < most) × (tens ≤ 9) }
     ensures { result ≡ to_bits binary32 (nearest text.now a b (digits, 10 ^ tens)) }
 {
-    let negative = a < scan::past(text, scan::Class::Is(45), a, b);
+    let negative = a < scan::past(text, scan::Is(45), a, b);
     decimal::decimal_word(negative, digits, tens as u32)
 }
 
@@ -236,10 +236,10 @@ fn digits_at(text: &[u8], a: usize, b: usize) -> u64
     requires { (a ≤ b) × (b ≤ length text.now) × (digits_of text.now (split_at text.now a b) < most) }
     ensures { result ≡ digits_of text.now (split_at text.now a b) }
 {
-    let from = scan::past(text, scan::Class::Either(43, 45), a, b);
-    let whole = scan::span(text, scan::Class::Digit(10), from, b);
-    let fraction = scan::past(text, scan::Class::Is(46), whole, b);
-    let end = scan::span(text, scan::Class::Digit(10), fraction, b);
+    let from = scan::past(text, scan::Either(43, 45), a, b);
+    let whole = scan::span(text, scan::Digit(10), from, b);
+    let fraction = scan::past(text, scan::Is(46), whole, b);
+    let end = scan::span(text, scan::Digit(10), fraction, b);
     value(text, 10, fraction, end, value(text, 10, from, whole, 0))
 }
 
@@ -262,7 +262,7 @@ fn shifted_word(text: &[u8], a: usize, b: usize, digits: u64, zeros: usize, tens
     requires { (a ≤ b) × (b ≤ length text.now) × (digits * 10 ^ zeros < most) × (zeros ≤ 9) × (tens ≤ 9) }
     ensures { result ≡ to_bits binary32 (nearest text.now a b (digits * 10 ^ zeros, 10 ^ tens)) }
 {
-    let negative = a < scan::past(text, scan::Class::Is(45), a, b);
+    let negative = a < scan::past(text, scan::Is(45), a, b);
     decimal::shifted_word(negative, digits, zeros as u32, tens as u32)
 }
 
@@ -271,13 +271,13 @@ fn shifted(text: &[u8], a: usize, b: usize, end: usize, w: usize, f: usize, digi
     requires { (a ≤ b) × (b ≤ length text.now) × Counted text.now a b end w f digits }
     ensures { Says text.now a b (split_at text.now a b) result }
 {
-    let x = scan::past(text, scan::Class::Either(69, 101), end, b);
-    let e = scan::past(text, scan::Class::Either(43, 45), x, b);
+    let x = scan::past(text, scan::Either(69, 101), end, b);
+    let e = scan::past(text, scan::Either(43, 45), x, b);
     if b - e > 2 {
         return Numeral::TooLong(a);
     }
     let n = value(text, 10, e, b, 0) as usize;
-    let minus = x < scan::past(text, scan::Class::Is(45), x, b);
+    let minus = x < scan::past(text, scan::Is(45), x, b);
     let shift = shift_of(w, f, minus, n);
     let before = shift.before;
     let behind = shift.behind;

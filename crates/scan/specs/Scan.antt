@@ -2,8 +2,6 @@
 use Rattle.std.specs.Prelude.{◌≡◌, List, [], ◌∷◌, Bool, true, false, not, ℕ, zero, suc, ◌+◌, ◌-◌, ◌≤◌, get_or, ltb, leb, eqb}
 use Prim.Native.Char.{code}
 use Prim.Native.String.{String}
-use Rattle.scan.specs.declared.Class.{Class}
-use Rattle.scan.specs.declared.Class.TheVariants.{Digit, Letter, Is, Not, Either, Neither, Below}
 
 -- the bytes of an ASCII text written out
 abbrev pub bytes : String → List ℕ
@@ -34,15 +32,33 @@ lower b = pick (within 65 90 b) (b + 32) b
 abbrev pub digit_of : ℕ → ℕ
 digit_of b = pick (within 48 57 b) (b - 48) (pick (within 65 70 b) (b - 55) (pick (within 97 102 b) (b - 87) 16))
 
--- whether a byte is of a class
-abbrev pub in_class : Class → ℕ → Bool
-in_class (Digit radix) b = ltb (digit_of b) radix
-in_class Letter b = pick (leb 97 b) (leb b 122) (within 65 90 b)
-in_class (Is x) b = eqb b x
-in_class (Not x) b = not (eqb b x)
-in_class (Either x y) b = pick (eqb b x) true (eqb b y)
-in_class (Neither x y) b = pick (eqb b x) false (not (eqb b y))
-in_class (Below x) b = ltb b x
+-- classes of bytes: the digits of a radix
+abbrev pub digit : ℕ → ℕ → Bool
+digit radix b = ltb (digit_of b) radix
+
+-- the ASCII letters
+abbrev pub letter : ℕ → Bool
+letter b = pick (leb 97 b) (leb b 122) (within 65 90 b)
+
+-- the byte x
+abbrev pub only : ℕ → ℕ → Bool
+only x b = eqb b x
+
+-- all but x
+abbrev pub other : ℕ → ℕ → Bool
+other x b = not (eqb b x)
+
+-- x and y
+abbrev pub one_of : ℕ → ℕ → ℕ → Bool
+one_of x y b = pick (eqb b x) true (eqb b y)
+
+-- all but x and y
+abbrev pub none_of : ℕ → ℕ → ℕ → Bool
+none_of x y b = pick (eqb b x) false (not (eqb b y))
+
+-- those below x
+abbrev pub below : ℕ → ℕ → Bool
+below x b = ltb b x
 
 -- 01, Blanks: bytes 9 to 13 and 32
 abbrev pub is_blank : ℕ → Bool

@@ -2,21 +2,12 @@
 #![tactic(auto)]
 
 ghost use Rattle.std.specs.Prelude.{◌≡◌, ℕ, ◌+◌, ◌-◌, ◌^◌, ◌≤◌, ◌<◌, min, length, get_or, not, eqb, ltb};
-ghost use Rattle.scan.specs.Scan.{both as both_of, either as either_of, lower as lower_of, digit_of, in_class, is_blank, blank_at, blank_before, span_to, back_to, trim_start, trim_end, past as past_to, opened as opened_by, closing_to, Place};
+ghost use Rattle.scan.specs.Scan.{both as both_of, either as either_of, lower as lower_of, digit_of, below as below_of, is_blank, blank_at, blank_before, span_to, back_to, trim_start, trim_end, past as past_to, opened as opened_by, closing_to, Place};
 ghost use Rattle.scan.specs.Inner.{Passed};
-ghost use Rattle.scan.specs.declared.Class.TheVariants.{Digit, Letter, Not, Below};
 
-// A class of bytes: the digits of a radix up to 16, the ASCII letters, one byte, all but one, either of two, neither of two, those below one.
-#[derive(Clone, Copy, Drop)]
-pub enum Class {
-    Digit(u8),
-    Letter,
-    Is(u8),
-    Not(u8),
-    Either(u8, u8),
-    Neither(u8, u8),
-    Below(u8),
-}
+mod class;
+
+pub use crate::class::{Below, Class, Digit, Either, Is, Letter, Neither, Not};
 
 // A byte in lower case.
 pub fn lower(b: u8) -> u8
@@ -56,150 +47,54 @@ pub fn digit_of(b: u8) -> u8
     16
 }
 
-fn is_letter(b: u8) -> bool
-    ensures { result ≡ in_class Class.Letter b }
-{
-    if b >= 97 {
-        b <= 122
-    } else if b >= 65 {
-        b <= 90
-    } else {
-        false
-    }
-}
-
-// Whether a byte is a digit of a radix.
-fn is_digit(b: u8, radix: u8) -> bool
-    ensures { result ≡ in_class (Digit radix) b }
-{
-    if radix > 10 {
-        return digit_of(b) < radix;
-    }
-    if b < 48 {
-        return false;
-    }
-    b - 48 < radix
-}
-
-// Whether a byte is of a class.
-pub fn has(class: Class, b: u8) -> bool
-    ensures { result ≡ in_class «class» b }
-{
-    match class {
-        Class::Digit(radix) => is_digit(b, radix),
-        Class::Letter => is_letter(b),
-        Class::Is(x) => b == x,
-        Class::Not(x) => b != x,
-        Class::Either(x, y) => if b == x { true } else { b == y },
-        Class::Neither(x, y) => if b == x { false } else { b != y },
-        Class::Below(x) => b < x,
-    }
-}
-
-// The first place from `from` on with the byte x, or `to`.
-// For the compiler (MEASURED, Shapes for the compiler): a loop of its own for a class.
-fn until(text: &[u8], x: u8, from: usize, to: usize) -> usize
-    requires { (from ≤ to) × (to ≤ length text.now) }
-    ensures { Place from to (span_to (in_class (Not x)) text.now from to) result }
-{
-    let mut i = from;
-    while i < to {
-        if text[i] == x {
-            return i;
-        }
-        i += 1;
-    }
-    i
-}
-
-// The place behind the letters from `from` on.
-// For the compiler (MEASURED, Shapes for the compiler): a loop of its own for a class.
-fn letters(text: &[u8], from: usize, to: usize) -> usize
-    requires { (from ≤ to) × (to ≤ length text.now) }
-    ensures { Place from to (span_to (in_class Letter) text.now from to) result }
-{
-    let mut i = from;
-    while i < to {
-        if !is_letter(text[i]) {
-            return i;
-        }
-        i += 1;
-    }
-    i
-}
-
 // A bound of the bytes between two places: the highest.
 // For the compiler (MEASURED, Shapes for the compiler): a loop with no exit, which runs many bytes at a time.
 fn highest(text: &[u8], from: usize, to: usize) -> u8
     requires { (from ≤ to) × (to ≤ length text.now) }
     ensures { (j : ℕ) → from ≤ j → j < to → get_or text.now j 0 ≤ result }
 {
-    let mut m: u8 = 0;
-    let mut i = from;
-    while i < to {
-        if text[i] > m {
-            m = text[i];
-        }
-        i += 1;
+    let mut m = 0;
+    for i in from..to {
+        m = text[i].max(m);
     }
     m
 }
 
-// The first place from `from` on whose byte is not of the class, or `to`, byte by byte.
-fn each(text: &[u8], class: Class, from: usize, to: usize) -> usize
-    requires { (from ≤ to) × (to ≤ length text.now) }
-    ensures { Place from to (span_to (in_class «class») text.now from to) result }
-{
-    let mut i = from;
-    while i < to {
-        if !has(class, text[i]) {
-            return i;
-        }
-        i += 1;
-    }
-    i
-}
-
 // The first place from `from` on whose byte is not below x, or `to`: mostly there is none.
-fn below(text: &[u8], x: u8, from: usize, to: usize) -> usize
+pub fn below(text: &[u8], x: u8, from: usize, to: usize) -> usize
     requires { (from ≤ to) × (to ≤ length text.now) }
-    ensures { Place from to (span_to (in_class (Below x)) text.now from to) result }
+    ensures { Place from to (span_to (below_of x) text.now from to) result }
 {
     if highest(text, from, to) < x {
         return to;
     }
-    each(text, Class::Below(x), from, to)
+    span(text, Below(x), from, to)
 }
 
 // The first place from `from` on whose byte is not of the class, or `to`.
-pub fn span(text: &[u8], class: Class, from: usize, to: usize) -> usize
+pub fn span<C: Class>(text: &[u8], class: C, from: usize, to: usize) -> usize
     requires { (from ≤ to) × (to ≤ length text.now) }
-    ensures { Place from to (span_to (in_class «class») text.now from to) result }
+    ensures { Place from to (span_to (C.holds class) text.now from to) result }
 {
-    match class {
-        Class::Not(x) => until(text, x, from, to),
-        Class::Letter => letters(text, from, to),
-        Class::Below(x) => below(text, x, from, to),
-        Class::Digit(_) => each(text, class, from, to),
-        Class::Is(_) => each(text, class, from, to),
-        Class::Either(_, _) => each(text, class, from, to),
-        Class::Neither(_, _) => each(text, class, from, to),
+    for i in from..to {
+        if !class.has(text[i]) {
+            return i;
+        }
     }
+    to
 }
 
 // The least place from which on, up to `to`, all bytes are of the class.
-pub fn span_back(text: &[u8], class: Class, from: usize, to: usize) -> usize
+pub fn span_back<C: Class>(text: &[u8], class: C, from: usize, to: usize) -> usize
     requires { (from ≤ to) × (to ≤ length text.now) }
-    ensures { Place from to (back_to (in_class «class») text.now from to) result }
+    ensures { Place from to (back_to (C.holds class) text.now from to) result }
 {
-    let mut e = to;
-    while from < e {
-        if !has(class, text[e - 1]) {
-            return e;
+    for i in (from..to).rev() {
+        if !class.has(text[i]) {
+            return i + 1;
         }
-        e -= 1;
     }
-    e
+    from
 }
 
 pub fn is_blank(b: u8) -> bool
@@ -268,16 +163,15 @@ pub fn trim_end(text: &[u8], from: usize, to: usize) -> usize
 }
 
 // The place behind i where the byte there is of the class, else i.
-pub fn past(text: &[u8], class: Class, i: usize, to: usize) -> usize
+pub fn past<C: Class>(text: &[u8], class: C, i: usize, to: usize) -> usize
     requires { (i ≤ to) × (to ≤ length text.now) }
-    ensures { Place i to (past_to (in_class «class») text.now i to) result }
+    ensures { Place i to (past_to (C.holds class) text.now i to) result }
 {
-    if i < to {
-        if has(class, text[i]) {
-            return i + 1;
-        }
+    if i < to && class.has(text[i]) {
+        i + 1
+    } else {
+        i
     }
-    i
 }
 
 fn opened(b: u8, k: usize) -> usize

@@ -1,10 +1,14 @@
+use Rattle.scan.proofs.Laws.{span-end, span-stop, span_go}
+use mathlib.Core.Path.{sym, ◌∙◌}
+use native.Mathlib.Omega.{arith}
+use borrow.Author.Rules.{rules}
 use Rattle.scan.proofs.span.Goals as goal
 
-pub returns-in-Not : goal.returns-in-Not
-returns-in-Not c = rw c.in-Not.is c.until.ensures
+pub returns-then-not-has : goal.returns-then-not-has
+returns-then-not-has g c = record { is = sym (c.loop-i.invariant ∙ span-stop _ _ _ _ (search rules) (sym c.has.ensures ∙ c.if-not-has.true)); low = search rules; high = search rules }
 
-pub returns-in-Letter : goal.returns-in-Letter
-returns-in-Letter c = rw c.in-Letter.is c.letters.ensures
+pub loop-i-preserved : goal.loop-i-preserved
+loop-i-preserved g c = c.loop-i.invariant ∙ span_go _ _ _ _ (search rules) (sym c.has.ensures ∙ c.if-not-has.false)
 
-pub returns-in-Below : goal.returns-in-Below
-returns-in-Below c = rw c.in-Below.is c.below.ensures
+pub returns : goal.returns
+returns g c = record { is = sym (c.loop-i.invariant ∙ span-end _ _ _ _ (search rules) ∙ omega arith); low = search rules; high = search rules }
