@@ -1,5 +1,5 @@
 -- How far a \t has come, and what stands between the state before it and the state that the tags inside it make: `apply_t` of the Rust.
-use Rattle.std.specs.Prelude.{ℕ, Bool, true, false, eqb, ℤ, pos, ◌-ℤ◌, Float}
+use Rattle.std.specs.Prelude.{ℕ, Bool, true, false, eqb, ℤ, pos, ◌-ℤ◌, Float, Option, None, Some, unwrap_or}
 use Rattle.std.specs.Int.Signed.{le_z}
 use Rattle.std.specs.Float.{nan, inf, fin, binary32}
 use Rattle.std.specs.Float.Ieee.{lt, eq, neg, div, of_int, of_bits, to_unsigned}
@@ -7,12 +7,6 @@ use Rattle.scan.specs.Scan.{pick}
 use Rattle.float.specs.Float.{zero, one, max_zero, clamp, lerp, round_away, round_byte}
 use Rattle.power.specs.Power.{power}
 use Rattle.tag.specs.Tag.{Times, absent, times}
-use Rattle.state.specs.declared.OptF32.{OptF32}
-use Rattle.state.specs.declared.OptPair.{OptPair}
-use Rattle.state.specs.declared.OptRect.{OptRect}
-use Rattle.state.specs.declared.OptRgb.{OptRgb}
-use Rattle.state.specs.declared.OptU8.{OptU8}
-use Rattle.state.specs.declared.OptI32.{OptI32}
 use Rattle.state.specs.declared.Pair.{Pair}
 use Rattle.state.specs.declared.ClipRect.{ClipRect}
 use Rattle.state.specs.declared.Rgb.{Rgb}
@@ -114,54 +108,19 @@ mix_rgb a b k = record { red = cut_between a.red b.red k; green = cut_between a.
 
 -- ---- options: where the state after has one, between that before, or itself, and it; else that before stays
 
-abbrev pub f32_or : OptF32 → Float → Float
-f32_or OptF32.None y = y
-f32_or (OptF32.Some x) y = x
+-- over the value's own mixing
+abbrev pub mix_option : {A : Type 0} → (A → A → Float → A) → Option A → Option A → Float → Option A
+mix_option mix a None k = a
+mix_option mix a (Some y) k = Some (mix (unwrap_or a y) y k)
 
-abbrev pub mix_f32 : OptF32 → OptF32 → Float → OptF32
-mix_f32 a OptF32.None k = a
-mix_f32 a (OptF32.Some y) k = OptF32.Some (lerp (f32_or a y) y k)
-
-abbrev pub pair_or : OptPair → Pair → Pair
-pair_or OptPair.None y = y
-pair_or (OptPair.Some x) y = x
-
-abbrev pub mix_opt_pair : OptPair → OptPair → Float → OptPair
-mix_opt_pair a OptPair.None k = a
-mix_opt_pair a (OptPair.Some y) k = OptPair.Some (mix_pair (pair_or a y) y k)
-
-abbrev pub rect_or : OptRect → ClipRect → ClipRect
-rect_or OptRect.None y = y
-rect_or (OptRect.Some x) y = x
-
-abbrev pub mix_opt_rect : OptRect → OptRect → Float → OptRect
-mix_opt_rect a OptRect.None k = a
-mix_opt_rect a (OptRect.Some y) k = OptRect.Some (mix_rect (rect_or a y) y k)
-
-abbrev pub rgb_or : OptRgb → Rgb → Rgb
-rgb_or OptRgb.None y = y
-rgb_or (OptRgb.Some x) y = x
-
-abbrev pub mix_opt_rgb : OptRgb → OptRgb → Float → OptRgb
-mix_opt_rgb a OptRgb.None k = a
-mix_opt_rgb a (OptRgb.Some y) k = OptRgb.Some (mix_rgb (rgb_or a y) y k)
-
-abbrev pub u8_or : OptU8 → ℕ → ℕ
-u8_or OptU8.None y = y
-u8_or (OptU8.Some x) y = x
-
-abbrev pub mix_u8 : OptU8 → OptU8 → Float → OptU8
-mix_u8 a OptU8.None k = a
-mix_u8 a (OptU8.Some y) k = OptU8.Some (round_between (u8_or a y) y k)
+-- a whole number: rounded
+abbrev pub mix_i32 : ℤ → ℤ → Float → ℤ
+mix_i32 a b k = round_away (lerp (of_int binary32 a) (of_int binary32 b) k)
 
 -- \pbo: from 0 where there was none
-abbrev pub i32_or : OptI32 → ℤ → ℤ
-i32_or OptI32.None y = y
-i32_or (OptI32.Some x) y = x
-
-abbrev pub mix_i32 : OptI32 → OptI32 → Float → OptI32
-mix_i32 a OptI32.None k = a
-mix_i32 a (OptI32.Some y) k = OptI32.Some (round_away (lerp (of_int binary32 (i32_or a (pos 0))) (of_int binary32 y) k))
+abbrev pub mix_baseline : Option ℤ → Option ℤ → Float → Option ℤ
+mix_baseline a None k = a
+mix_baseline a (Some y) k = Some (mix_i32 (unwrap_or a (pos 0)) y k)
 
 -- ---- group by group
 
@@ -184,51 +143,51 @@ mix_always a b k = record {
 
 unfoldable pub mix_places : Places → Places → Float → Places
 unfolding lerp
-mix_places a b k = record { translate = record { is = mix_opt_pair a.translate.is b.translate.is k }; border = record { is = mix_opt_pair a.border.is b.border.is k }; shadow = record { is = mix_opt_pair a.shadow.is b.shadow.is k } }
+mix_places a b k = record { translate = mix_option mix_pair a.translate b.translate k; border = mix_option mix_pair a.border b.border k; shadow = mix_option mix_pair a.shadow b.shadow k }
 
 unfoldable pub mix_clips : Clips → Clips → Float → Clips
 unfolding lerp
-mix_clips a b k = record { clip_rect = record { is = mix_opt_rect a.clip_rect.is b.clip_rect.is k }; iclip_rect = record { is = mix_opt_rect a.iclip_rect.is b.iclip_rect.is k } }
+mix_clips a b k = record { clip_rect = mix_option mix_rect a.clip_rect b.clip_rect k; iclip_rect = mix_option mix_rect a.iclip_rect b.iclip_rect k }
 
 unfoldable pub mix_sizes : Sizes → Sizes → Float → Sizes
 unfolding lerp round_away
 mix_sizes a b k = record {
-  font_size = record { is = mix_f32 a.font_size.is b.font_size.is k };
-  letter_spacing = record { is = mix_f32 a.letter_spacing.is b.letter_spacing.is k };
-  drawing_baseline_offset = record { is = mix_i32 a.drawing_baseline_offset.is b.drawing_baseline_offset.is k };
+  font_size = mix_option lerp a.font_size b.font_size k;
+  letter_spacing = mix_option lerp a.letter_spacing b.letter_spacing k;
+  drawing_baseline_offset = mix_baseline a.drawing_baseline_offset b.drawing_baseline_offset k;
 }
 
 unfoldable pub mix_colors : Colors → Colors → Float → Colors
 unfolding cut_between
 mix_colors a b k = record {
-  primary_color = record { is = mix_opt_rgb a.primary_color.is b.primary_color.is k };
-  secondary_color = record { is = mix_opt_rgb a.secondary_color.is b.secondary_color.is k };
-  outline_color = record { is = mix_opt_rgb a.outline_color.is b.outline_color.is k };
-  shadow_color = record { is = mix_opt_rgb a.shadow_color.is b.shadow_color.is k };
+  primary_color = mix_option mix_rgb a.primary_color b.primary_color k;
+  secondary_color = mix_option mix_rgb a.secondary_color b.secondary_color k;
+  outline_color = mix_option mix_rgb a.outline_color b.outline_color k;
+  shadow_color = mix_option mix_rgb a.shadow_color b.shadow_color k;
 }
 
 unfoldable pub mix_alphas : Alphas → Alphas → Float → Alphas
 unfolding round_between
 mix_alphas a b k = record {
-  primary_alpha = record { is = mix_u8 a.primary_alpha.is b.primary_alpha.is k };
-  secondary_alpha = record { is = mix_u8 a.secondary_alpha.is b.secondary_alpha.is k };
-  outline_alpha = record { is = mix_u8 a.outline_alpha.is b.outline_alpha.is k };
-  shadow_alpha = record { is = mix_u8 a.shadow_alpha.is b.shadow_alpha.is k };
+  primary_alpha = mix_option round_between a.primary_alpha b.primary_alpha k;
+  secondary_alpha = mix_option round_between a.secondary_alpha b.secondary_alpha k;
+  outline_alpha = mix_option round_between a.outline_alpha b.outline_alpha k;
+  shadow_alpha = mix_option round_between a.shadow_alpha b.shadow_alpha k;
 }
 
 -- What is not interpolated is taken over once k is above 0. Where both are the same, as the Rust asks first, it makes no difference which of
 -- the two is taken. Only the pivot's floats can be equal and not the same, as 0 and -0: then that before stays.
-unfoldable pub same_pair : OptPair → OptPair → Bool
+unfoldable pub same_pair : Option Pair → Option Pair → Bool
 unfolding eq
-same_pair OptPair.None OptPair.None = true
-same_pair OptPair.None (OptPair.Some q) = false
-same_pair (OptPair.Some p) OptPair.None = false
-same_pair (OptPair.Some p) (OptPair.Some q) = pick (eq p.x q.x) (eq p.y q.y) false
+same_pair None None = true
+same_pair None (Some q) = false
+same_pair (Some p) None = false
+same_pair (Some p) (Some q) = pick (eq p.x q.x) (eq p.y q.y) false
 
 unfoldable pub mix_line : Line → Line → Float → Line
 unfolding lt same_pair
 mix_line a b k = pick (lt zero k) (record {
-  pivot = record { is = pick (same_pair a.pivot.is b.pivot.is) a.pivot.is b.pivot.is };
+  pivot = pick (same_pair a.pivot b.pivot) a.pivot b.pivot;
   clip_drawing = b.clip_drawing;
   iclip_drawing = b.iclip_drawing;
   wrap_style = b.wrap_style;

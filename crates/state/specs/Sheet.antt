@@ -1,10 +1,10 @@
 -- Worked examples, by computation: 01's sheet and its plausible slips, on tags.
-use Rattle.std.specs.Prelude.{◌≡◌, refl, ℕ, ℤ, pos, Float}
+use Rattle.std.specs.Prelude.{◌≡◌, refl, ℕ, ℤ, pos, Float, unwrap_or}
 use Rattle.std.specs.Float.{binary32}
 use Rattle.std.specs.Float.Ieee.{of_bits, to_bits, of_int}
 use Rattle.float.specs.Float.{zero, one}
 use Rattle.tag.specs.Tag.{times, absent, Tags, none, and, Fad, Fs, T, Alpha1}
-use Rattle.state.specs.Mix.{quotient, f32_or, u8_or}
+use Rattle.state.specs.Mix.{quotient}
 use Rattle.state.specs.Apply.{apply_own, apply_tags, evaluate_at}
 
 abbrev whole : ℕ → Float
@@ -12,7 +12,7 @@ whole n = of_int binary32 (pos n)
 
 -- the size at t, as bits
 abbrev size_at : ℕ → Tags → ℕ
-size_at t l = to_bits binary32 (f32_or (evaluate_at (pos t) (pos 2000) l).sizes.font_size.is zero)
+size_at t l = to_bits binary32 (unwrap_or (evaluate_at (pos t) (pos 2000) l).sizes.font_size zero)
 
 abbrev opacity_at : ℕ → Tags → ℕ
 opacity_at t l = to_bits binary32 (evaluate_at (pos t) (pos 1000) l).always.alpha_mul
@@ -88,6 +88,6 @@ unfolding quotient to_bits of_int
 times-rounded = refl
 
 -- an alpha inside \t rounds: 255 down to 0 at half is 128
-alpha_rounds : u8_or (evaluate_at (pos 500) (pos 1000) (and (Alpha1 255) (and (T absent one (and (Alpha1 0) none)) none))).alphas.primary_alpha.is 0 ≡ 128
+alpha_rounds : unwrap_or (evaluate_at (pos 500) (pos 1000) (and (Alpha1 255) (and (T absent one (and (Alpha1 0) none)) none))).alphas.primary_alpha 0 ≡ 128
 unfolding evaluate_at apply_tags apply_own
 alpha_rounds = refl

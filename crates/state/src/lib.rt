@@ -2,12 +2,21 @@
 #![tactic(auto)]
 
 ghost use Rattle.std.specs.Prelude.{◌≡◌};
-ghost use Rattle.state.specs.State.{identity as no_override};
+ghost use Rattle.state.specs.State.{identity as no_override, splat};
 
-#[derive(Clone, Copy, Drop)]
+#[derive(Clone, Copy, Default, Drop, PartialEq)]
 pub struct Pair {
     pub x: f32,
     pub y: f32,
+}
+
+impl Pair {
+    // The same on both axes.
+    pub fn splat(v: f32) -> Pair
+        ensures { result ≡ splat v }
+    {
+        Pair { x: v, y: v }
+    }
 }
 
 #[derive(Clone, Copy, Drop)]
@@ -37,133 +46,8 @@ pub struct Name {
     pub parameter: Part,
 }
 
-#[derive(Clone, Copy, Drop)]
-pub enum OptF32 {
-    None,
-    Some(f32),
-}
-
-#[derive(Clone, Copy, Drop)]
-pub enum OptPair {
-    None,
-    Some(Pair),
-}
-
-#[derive(Clone, Copy, Drop)]
-pub enum OptRect {
-    None,
-    Some(ClipRect),
-}
-
-#[derive(Clone, Copy, Drop)]
-pub enum OptRgb {
-    None,
-    Some(Rgb),
-}
-
-#[derive(Clone, Copy, Drop)]
-pub enum OptU8 {
-    None,
-    Some(u8),
-}
-
-#[derive(Clone, Copy, Drop)]
-pub enum OptU16 {
-    None,
-    Some(u16),
-}
-
-#[derive(Clone, Copy, Drop)]
-pub enum OptI32 {
-    None,
-    Some(i32),
-}
-
-#[derive(Clone, Copy, Drop)]
-pub enum OptBool {
-    None,
-    Some(bool),
-}
-
-#[derive(Clone, Copy, Drop)]
-pub enum OptPart {
-    None,
-    Some(Part),
-}
-
-#[derive(Clone, Copy, Drop)]
-pub enum OptName {
-    None,
-    Some(Name),
-}
-
-// `Option<Option<String>>`
-#[derive(Clone, Copy, Drop)]
-pub enum OptReset {
-    None,
-    Plain,
-    Named(Part),
-}
-
-// An option as a field: a struct, since a field that is an enum is not stored to.
-// For the compiler (MEASURED, Shapes for the compiler): an option is an enum in a struct.
-#[derive(Clone, Copy, Drop)]
-pub struct MaybeF32 {
-    pub is: OptF32,
-}
-
-#[derive(Clone, Copy, Drop)]
-pub struct MaybePair {
-    pub is: OptPair,
-}
-
-#[derive(Clone, Copy, Drop)]
-pub struct MaybeRect {
-    pub is: OptRect,
-}
-
-#[derive(Clone, Copy, Drop)]
-pub struct MaybeRgb {
-    pub is: OptRgb,
-}
-
-#[derive(Clone, Copy, Drop)]
-pub struct MaybeU8 {
-    pub is: OptU8,
-}
-
-#[derive(Clone, Copy, Drop)]
-pub struct MaybeU16 {
-    pub is: OptU16,
-}
-
-#[derive(Clone, Copy, Drop)]
-pub struct MaybeI32 {
-    pub is: OptI32,
-}
-
-#[derive(Clone, Copy, Drop)]
-pub struct MaybeBool {
-    pub is: OptBool,
-}
-
-#[derive(Clone, Copy, Drop)]
-pub struct MaybePart {
-    pub is: OptPart,
-}
-
-#[derive(Clone, Copy, Drop)]
-pub struct MaybeName {
-    pub is: OptName,
-}
-
-#[derive(Clone, Copy, Drop)]
-pub struct MaybeReset {
-    pub is: OptReset,
-}
-
 // What every state has.
-#[derive(Clone, Copy, Drop)]
+#[derive(Clone, Copy, Default, Drop)]
 pub struct Always {
     pub alpha_mul: f32,
     pub rotate_radians: f32,
@@ -175,61 +59,62 @@ pub struct Always {
     pub shear: Pair,
 }
 
-#[derive(Clone, Copy, Drop)]
+#[derive(Clone, Copy, Default, Drop)]
 pub struct Places {
-    pub translate: MaybePair,
-    pub border: MaybePair,
-    pub shadow: MaybePair,
+    pub translate: Option<Pair>,
+    pub border: Option<Pair>,
+    pub shadow: Option<Pair>,
 }
 
-#[derive(Clone, Copy, Drop)]
+#[derive(Clone, Copy, Default, Drop)]
 pub struct Clips {
-    pub clip_rect: MaybeRect,
-    pub iclip_rect: MaybeRect,
+    pub clip_rect: Option<ClipRect>,
+    pub iclip_rect: Option<ClipRect>,
 }
 
-#[derive(Clone, Copy, Drop)]
+#[derive(Clone, Copy, Default, Drop)]
 pub struct Sizes {
-    pub font_size: MaybeF32,
-    pub letter_spacing: MaybeF32,
-    pub drawing_baseline_offset: MaybeI32,
+    pub font_size: Option<f32>,
+    pub letter_spacing: Option<f32>,
+    pub drawing_baseline_offset: Option<i32>,
 }
 
-#[derive(Clone, Copy, Drop)]
+#[derive(Clone, Copy, Default, Drop)]
 pub struct Colors {
-    pub primary_color: MaybeRgb,
-    pub secondary_color: MaybeRgb,
-    pub outline_color: MaybeRgb,
-    pub shadow_color: MaybeRgb,
+    pub primary_color: Option<Rgb>,
+    pub secondary_color: Option<Rgb>,
+    pub outline_color: Option<Rgb>,
+    pub shadow_color: Option<Rgb>,
 }
 
-#[derive(Clone, Copy, Drop)]
+#[derive(Clone, Copy, Default, Drop)]
 pub struct Alphas {
-    pub primary_alpha: MaybeU8,
-    pub secondary_alpha: MaybeU8,
-    pub outline_alpha: MaybeU8,
-    pub shadow_alpha: MaybeU8,
+    pub primary_alpha: Option<u8>,
+    pub secondary_alpha: Option<u8>,
+    pub outline_alpha: Option<u8>,
+    pub shadow_alpha: Option<u8>,
 }
 
-#[derive(Clone, Copy, Drop)]
+#[derive(Clone, Copy, Default, Drop)]
 pub struct Line {
-    pub pivot: MaybePair,
-    pub clip_drawing: MaybePart,
-    pub iclip_drawing: MaybePart,
-    pub wrap_style: MaybeU8,
-    pub alignment: MaybeU8,
-    pub reset_to_style: MaybeReset,
-    pub drawing_scale: MaybeU8,
+    pub pivot: Option<Pair>,
+    pub clip_drawing: Option<Part>,
+    pub iclip_drawing: Option<Part>,
+    pub wrap_style: Option<u8>,
+    pub alignment: Option<u8>,
+    // None: no \\r; Some(None): a plain one; Some(Some(name)): to the style of that name.
+    pub reset_to_style: Option<Option<Part>>,
+    pub drawing_scale: Option<u8>,
 }
 
-#[derive(Clone, Copy, Drop)]
+#[derive(Clone, Copy, Default, Drop)]
 pub struct Font {
-    pub font_name: MaybeName,
-    pub font_encoding: MaybeU8,
-    pub bold_weight: MaybeU16,
-    pub italic: MaybeBool,
-    pub underline: MaybeBool,
-    pub strikeout: MaybeBool,
+    pub font_name: Option<Name>,
+    pub font_encoding: Option<u8>,
+    pub bold_weight: Option<u16>,
+    pub italic: Option<bool>,
+    pub underline: Option<bool>,
+    pub strikeout: Option<bool>,
 }
 
 #[derive(Clone, Copy, Drop)]
@@ -248,80 +133,18 @@ pub struct RenderState {
 pub fn identity() -> RenderState
     ensures { result ≡ no_override }
 {
-    let no_f32 = MaybeF32 { is: OptF32::None };
-    let no_pair = MaybePair { is: OptPair::None };
-    let no_rect = MaybeRect { is: OptRect::None };
-    let no_rgb = MaybeRgb { is: OptRgb::None };
-    let no_u8 = MaybeU8 { is: OptU8::None };
-    let no_u16 = MaybeU16 { is: OptU16::None };
-    let no_i32 = MaybeI32 { is: OptI32::None };
-    let no_bool = MaybeBool { is: OptBool::None };
-    let no_part = MaybePart { is: OptPart::None };
-    let no_name = MaybeName { is: OptName::None };
-    let no_reset = MaybeReset { is: OptReset::None };
-    let scale = Pair { x: 1.0, y: 1.0 };
-    let shear = Pair { x: 0.0, y: 0.0 };
-    let always = Always {
-        alpha_mul: 1.0,
-        rotate_radians: 0.0,
-        rotate_x_radians: 0.0,
-        rotate_y_radians: 0.0,
-        scale,
-        blur_sigma: 0.0,
-        be_strength: 0,
-        shear,
-    };
-    let places = Places {
-        translate: no_pair,
-        border: no_pair,
-        shadow: no_pair,
-    };
-    let clips = Clips {
-        clip_rect: no_rect,
-        iclip_rect: no_rect,
-    };
-    let sizes = Sizes {
-        font_size: no_f32,
-        letter_spacing: no_f32,
-        drawing_baseline_offset: no_i32,
-    };
-    let colors = Colors {
-        primary_color: no_rgb,
-        secondary_color: no_rgb,
-        outline_color: no_rgb,
-        shadow_color: no_rgb,
-    };
-    let alphas = Alphas {
-        primary_alpha: no_u8,
-        secondary_alpha: no_u8,
-        outline_alpha: no_u8,
-        shadow_alpha: no_u8,
-    };
-    let line = Line {
-        pivot: no_pair,
-        clip_drawing: no_part,
-        iclip_drawing: no_part,
-        wrap_style: no_u8,
-        alignment: no_u8,
-        reset_to_style: no_reset,
-        drawing_scale: no_u8,
-    };
-    let font = Font {
-        font_name: no_name,
-        font_encoding: no_u8,
-        bold_weight: no_u16,
-        italic: no_bool,
-        underline: no_bool,
-        strikeout: no_bool,
-    };
     RenderState {
-        always,
-        places,
-        clips,
-        sizes,
-        colors,
-        alphas,
-        line,
-        font,
+        always: Always {
+            alpha_mul: 1.0,
+            scale: Pair::splat(1.0),
+            ..Always::default()
+        },
+        places: Places::default(),
+        clips: Clips::default(),
+        sizes: Sizes::default(),
+        colors: Colors::default(),
+        alphas: Alphas::default(),
+        line: Line::default(),
+        font: Font::default(),
     }
 }
