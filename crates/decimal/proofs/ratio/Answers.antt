@@ -1,11 +1,10 @@
-use mathlib.Core.Path.{refl, sym, ap, ◌∙◌, subst}
+use mathlib.Core.Path.{sym, ap, ◌∙◌, subst}
 use Prim.Native.Nat.{ℕ, ◌+◌, ◌*◌, ◌^◌, ◌<◌, ◌≤◌}
 use native.Mathlib.Nat.{le_trans, le_of_eq}
 use mathlib.Core.Bool.{not}
 use lib.Dec.{T}
 use lib.Ieee.{binary32, nan_bits, of_bits}
 use native.Mathlib.Omega.{arith}
-use borrow.Author.Rules.{rules}
 use Rattle.decimal.proofs.Law.{exponent-low, exponent-high, double, halve, q_hi, read_back, clean}
 use Rattle.decimal.proofs.ratio.Goals as goal
 use Rattle.decimal.proofs.ratio.Goals.{After-half_even, At-loop-d, At-loop-n}
@@ -25,15 +24,6 @@ few c =
     le_trans (le_of_eq c.half_even.ensures)
     (q_hi start.args.num start.args.den l2.loop-n.n l2.loop-d.d l2.loop-d.e start.requires.2 l2.loop-d.invariant.1 l2.loop-d.invariant.0 l2.loop-d.invariant.2 c.loop-d-test.false (high-e l2))
 
-pub loop-n-init : goal.loop-n-init
-loop-n-init c = (refl, c.requires.1, search rules)
-
-pub overflow_sub-e : goal.overflow_sub-e
-overflow_sub-e c = omega (arith, low-e c.before)
-
-pub loop-n-smaller : goal.loop-n-smaller
-loop-n-smaller c = omega (arith, low-e c.before)
-
 pub loop-n-preserved : goal.loop-n-preserved
 loop-n-preserved c = (double c.loop-n.n c.loop-n.e _ (omega (arith, low-e c.before)) c.loop-n.invariant.0, omega arith, omega arith)
 
@@ -45,9 +35,6 @@ loop-d-init c = (
   c.loop-n.invariant.1,
 )
 
-pub overflow_add-e : goal.overflow_add-e
-overflow_add-e c = record { fits = omega (arith, high-e c.before) }
-
 pub loop-d-preserved : goal.loop-d-preserved
 loop-d-preserved c = (
   halve c.loop-n.n c.loop-d.e c.args.den _ c.loop-d.d c.loop-d.invariant.0,
@@ -55,15 +42,6 @@ loop-d-preserved c = (
   omega arith,
   c.loop-d.invariant.3,
 )
-
-pub overflow_mul-result : goal.overflow_mul-result
-overflow_mul-result c = record { fits = omega (arith, high-e c.before) }
-
-pub overflow_cast-result : goal.overflow_cast-result
-overflow_cast-result c = record { fits = omega (arith, few c) }
-
-pub overflow_add-result : goal.overflow_add-result
-overflow_add-result c = record { fits = omega (arith, few c, high-e c.before.before) }
 
 pub float_from_bits-result : goal.float_from_bits-result
 float_from_bits-result c = subst (λ (x : ℕ). T (not (nan_bits binary32 (c.loop-d.e * 8388608 + x)))) (sym c.half_even.ensures)
@@ -76,3 +54,12 @@ returns c = ap (λ (x : ℕ). of_bits binary32 (c.loop-d.e * 8388608 + x)) c.hal
     ∙ (let l2 = c.before.before in
     let start = l2.before.before.before in
     read_back start.args.num start.args.den l2.loop-n.n l2.loop-d.d l2.loop-d.e start.requires.2 l2.loop-d.invariant.1 l2.loop-d.invariant.0 l2.loop-d.invariant.2 c.loop-d-test.false (high-e l2))
+
+pub overflow_add-e : goal.overflow_add-e
+overflow_add-e c = record { fits = omega (arith, high-e c.before) }
+
+pub overflow_mul-result : goal.overflow_mul-result
+overflow_mul-result c = record { fits = omega (arith, high-e c.before) }
+
+pub overflow_add-result : goal.overflow_add-result
+overflow_add-result c = record { fits = omega (arith, few c, high-e c.before.before) }
