@@ -5,8 +5,8 @@ use mathlib.Core.Logic.{◌⊎◌, inl, inr, ⊎_elim}
 use Prim.Native.Nat.{ℕ, zero, suc, ◌+◌, ◌≤◌, ◌<◌}
 use native.Mathlib.Omega.{arith}
 use Rattle.scan.proofs.Laws.{le_or_lt}
-use Rattle.refusal.specs.declared.Checked.{Checked}
-use Rattle.refusal.specs.declared.Checked.TheVariants.{Bad}
+use Rattle.refusal.specs.Refusal.{Checked}
+use Rattle.std.specs.Prelude.{Err}
 use Rattle.refusal.specs.declared.Refusal.{Refusal}
 use Rattle.refusal.specs.declared.Refusal.TheVariants.{TableMalformed}
 use Rattle.tag.specs.declared.Record.{Record}
@@ -69,11 +69,11 @@ before (suc d) h (AtFault.behind {r = r} g f) =
 -- ---- a table
 
 -- the ground names the first record at fault
-named : {e : ℕ} (t : List ℕ) (p : ℕ) → AtFault e (front t) p → ((k : ℕ) → k < p → AtFault e (front t) k → ⊥) → table_ground_to e t ≡ Bad (TableMalformed p)
+named : {e : ℕ} (t : List ℕ) (p : ℕ) → AtFault e (front t) p → ((k : ℕ) → k < p → AtFault e (front t) k → ⊥) → table_ground_to e t ≡ Err (TableMalformed p)
 named {e} t p f none =
     look t {d = e} (λ x g. absurd (x p f))
     (λ b x g. let q : 0 + x.place ≡ p = ⊎_elim (λ h. ⊎_elim (λ k. omega arith) (λ k. absurd (x.none p k f)) (le_or_lt x.place p)) (λ h. absurd (none x.place h x.fault)) (le_or_lt p x.place) in
-    g ∙ ap Bad (x.is ∙ ap TableMalformed q))
+    g ∙ ap Err (x.is ∙ ap TableMalformed q))
 
 module _ {d e : ℕ} (t : List ℕ) (h : d ≤ e) where
   abbrev ground : ℕ → Checked
@@ -84,9 +84,9 @@ module _ {d e : ℕ} (t : List ℕ) (h : d ≤ e) where
   none_more none k f = let b = before d h f in none b.place b.fault
 
   -- the first at fault at d is the first at fault at e, or the first too deep
-  module _ (b : Refusal) (f : FirstFault d 0 (front t) b) (g : ground d ≡ Bad b) where
-    told : ground d ≡ Bad (TableMalformed f.place)
-    told = let z : 0 + f.place ≡ f.place = omega arith in g ∙ ap Bad (f.is ∙ ap TableMalformed z)
+  module _ (b : Refusal) (f : FirstFault d 0 (front t) b) (g : ground d ≡ Err b) where
+    told : ground d ≡ Err (TableMalformed f.place)
+    told = let z : 0 + f.place ≡ f.place = omega arith in g ∙ ap Err (f.is ∙ ap TableMalformed z)
 
     none_before : (k : ℕ) → k < f.place → AtFault e (front t) k → ⊥
     none_before k l x =
@@ -94,7 +94,7 @@ module _ {d e : ℕ} (t : List ℕ) (h : d ≤ e) where
         let low = b.low in
         f.none b.place (omega arith) b.fault
 
-    as_deep : TooDeep d (front t) f.place → RefusedAsDeep d e t ground Bad
+    as_deep : TooDeep d (front t) f.place → RefusedAsDeep d e t ground Err
     as_deep x = record { place = f.place; is = record { deep = x; first = λ k l y. f.none k l (deep-fault y); fine = none_before }; refusal = told }
 
     as_other : AtFault e (front t) f.place → Alike d e t ground
@@ -104,14 +104,14 @@ module _ {d e : ℕ} (t : List ℕ) (h : d ≤ e) where
           other = λ k y. record { place = f.place; low = ⊎_elim (λ l. l) (λ l. absurd (f.none k l (deep-fault y))) (le_or_lt f.place k); fault = x };
         }
 
-  alike_or_deep : Alike d e t ground ⊎ RefusedAsDeep d e t ground Bad
+  alike_or_deep : Alike d e t ground ⊎ RefusedAsDeep d e t ground Err
   alike_or_deep =
       look t {d = d}
       (λ none g. inl (record { is = g ∙ sym (look t {d = e} (λ n x. x) (λ b f x. absurd (none_more none f.place f.fault))); other = λ k x. absurd (none k (deep-fault x)) }))
       (λ b f g. ⊎_elim (λ x. inr (as_deep b f g x)) (λ x. inl (as_other b f g x)) (deep_or_fault e h f.fault))
 
   -- 02, N7, of ground 5
-  pub stored : Stored d e t ground Bad
+  pub stored : Stored d e t ground Err
   stored =
       record {
         formed = λ w. formed-more t h w;

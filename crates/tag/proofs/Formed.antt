@@ -11,15 +11,14 @@ use lib.ListN.{length, take, drop, length-take, length-drop, take-append-drop}
 use lib.Seq.{take_all}
 use borrow.Author.Tests.{le-leb, eq-eqb, ne_eqb, leb-true, leb-false, eqb-true}
 use Rattle.scan.specs.Scan.{pick}
-use Rattle.refusal.specs.Refusal.{most_places}
-use Rattle.refusal.specs.declared.Checked.{Checked}
-use Rattle.refusal.specs.declared.Checked.TheVariants.{Good, Bad}
+use Rattle.refusal.specs.Refusal.{Checked, most_places}
+use Rattle.std.specs.Prelude.{Ok, Err}
 use Rattle.refusal.specs.declared.Refusal.{Refusal}
 use Rattle.refusal.specs.declared.Refusal.TheVariants.{TableMalformed}
 use Rattle.tag.specs.declared.Record.{Record}
 use Rattle.tag.specs.Range.{in_range}
 use Rattle.refusal.specs.Answer.{first_ground}
-use Rattle.tag.specs.WellFormed.{records_of, broken, All, all, more, InRange, t_kind, holds, Nested, end, plain, around, WellFormedTo, fault_in, fault, excess, front, table_ground_to, AtFault, range, deep, past, later, inner, behind}
+use Rattle.tag.specs.WellFormed.{records_of, broken, All, all, more, InRange, t_kind, holds, Nested, end, plain, around, WellFormedTo, fault_at, fault_in, fault, excess, front, table_ground_to, AtFault, range, deep, past, later, inner, behind}
 
 -- ---- lists
 
@@ -46,12 +45,12 @@ all-parts {A} {P} n l a b = subst (All P) (take-append-drop n l) (all_append a b
 
 -- ---- a fault and its place
 
-pub bad_good : {r : Refusal} → Bad r ≡ Good → ⊥
+pub bad_good : {r : Refusal} → ◌≡◌ {A = Checked} (Err r) (Ok tt) → ⊥
 bad_good e = let z : ◌≡◌ {A = ℕ} 0 1 = cc in omega arith
 
-pub first_good : (a b : Checked) → first_ground a b ≡ Good → (a ≡ Good) × (b ≡ Good)
-first_good Good b e = (refl, e)
-first_good (Bad r) b e = absurd (bad_good e)
+pub first_good : (a b : Checked) → first_ground a b ≡ Ok tt → (a ≡ Ok tt) × (b ≡ Ok tt)
+first_good (Ok _) b e = (refl, e)
+first_good (Err r) b e = absurd (bad_good e)
 
 fault-inside : {d : ℕ} {l : List Record} {i : ℕ} → AtFault d l i → i < length l
 fault-inside (range h) = omega arith
@@ -94,7 +93,7 @@ fine-t r l a b c f g =
       nested = around (eqb-true r.kind t_kind b) (leb-true (holds r) (length l) c) f.nested g.nested;
     }
 
-fault-fine : (n d i : ℕ) (l : List Record) → length l ≤ n → fault_in n d i l ≡ Good → Fine d l
+fault-fine : (n d i : ℕ) (l : List Record) → length l ≤ n → fault_in n d i l ≡ Ok tt → Fine d l
 unfolding fault_in
 fault-fine zero d i [] h e = record { ranges = all; nested = end }
 fault-fine zero d i (r ∷ l) h e = absurd (omega arith)
@@ -102,7 +101,7 @@ fault-fine (suc n) zero i [] h e = record { ranges = all; nested = end }
 fault-fine (suc n) (suc d) i [] h e = record { ranges = all; nested = end }
 fault-fine (suc n) zero i (r ∷ l) h e = go (in_range r) (eqb r.kind t_kind) refl refl e (λ f. fault-fine n zero (i + 1) l (omega arith) f)
   where
-    go : (t u : Bool) → in_range r ≡ t → eqb r.kind t_kind ≡ u → pick t (pick u (Bad (TableMalformed i)) (fault_in n zero (i + 1) l)) (Bad (TableMalformed i)) ≡ Good → (fault_in n zero (i + 1) l ≡ Good → Fine zero l) → Fine zero (r ∷ l)
+    go : (t u : Bool) → in_range r ≡ t → eqb r.kind t_kind ≡ u → pick t (pick u (fault_at i) (fault_in n zero (i + 1) l)) (fault_at i) ≡ Ok tt → (fault_in n zero (i + 1) l ≡ Ok tt → Fine zero l) → Fine zero (r ∷ l)
     go true true a b e f = absurd (bad_good e)
     go true false a b e f = fine-plain r a b (f e)
     go false u a b e f = absurd (bad_good e)
@@ -113,10 +112,10 @@ fault-fine (suc n) (suc d) i (r ∷ l) h e =
     (λ f. fault-fine n (suc d) (i + 1 + holds r) (drop (holds r) l) (omega (arith, length-drop (holds r) l)) f)
   where
     go : (t u v : Bool) → in_range r ≡ t → eqb r.kind t_kind ≡ u → leb (holds r) (length l) ≡ v
-        → pick t (pick u (pick v (first_ground (fault_in n d (i + 1) (take (holds r) l)) (fault_in n (suc d) (i + 1 + holds r) (drop (holds r) l))) (Bad (TableMalformed i))) (fault_in n (suc d) (i + 1) l)) (Bad (TableMalformed i)) ≡ Good
-        → (fault_in n (suc d) (i + 1) l ≡ Good → Fine (suc d) l)
-        → (fault_in n d (i + 1) (take (holds r) l) ≡ Good → Fine d (take (holds r) l))
-        → (fault_in n (suc d) (i + 1 + holds r) (drop (holds r) l) ≡ Good → Fine (suc d) (drop (holds r) l)) → Fine (suc d) (r ∷ l)
+        → pick t (pick u (pick v (first_ground (fault_in n d (i + 1) (take (holds r) l)) (fault_in n (suc d) (i + 1 + holds r) (drop (holds r) l))) (fault_at i)) (fault_in n (suc d) (i + 1) l)) (fault_at i) ≡ Ok tt
+        → (fault_in n (suc d) (i + 1) l ≡ Ok tt → Fine (suc d) l)
+        → (fault_in n d (i + 1) (take (holds r) l) ≡ Ok tt → Fine d (take (holds r) l))
+        → (fault_in n (suc d) (i + 1 + holds r) (drop (holds r) l) ≡ Ok tt → Fine (suc d) (drop (holds r) l)) → Fine (suc d) (r ∷ l)
     go true true true a b c e f g k =
         let w = first_good (fault_in n d (i + 1) (take (holds r) l)) (fault_in n (suc d) (i + 1 + holds r) (drop (holds r) l)) e in
         fine-t r l a b c (g w.0) (k w.1)
@@ -126,7 +125,7 @@ fault-fine (suc n) (suc d) i (r ∷ l) h e =
 
 -- ---- and back
 
-fine-fault : (n d i : ℕ) {l : List Record} → length l ≤ n → All InRange l → Nested d l → fault_in n d i l ≡ Good
+fine-fault : (n d i : ℕ) {l : List Record} → length l ≤ n → All InRange l → Nested d l → fault_in n d i l ≡ Ok tt
 unfolding fault_in
 fine-fault zero d i h a m = refl
 fine-fault (suc n) zero i h all end = refl
@@ -151,7 +150,7 @@ pub record FirstFault (d i : ℕ) (l : List Record) (b : Refusal) : Type 0 where
   pub fault : AtFault d l place
   pub none : (k : ℕ) → k < place → AtFault d l k → ⊥
 
-here : {d i : ℕ} {l : List Record} {b : Refusal} → Bad (TableMalformed i) ≡ Bad b → AtFault d l 0 → FirstFault d i l b
+here : {d i : ℕ} {l : List Record} {b : Refusal} → fault_at i ≡ Err b → AtFault d l 0 → FirstFault d i l b
 here {i = i} e f = record { place = 0; is = let z : i + 0 ≡ i = omega arith in rw z (cc); fault = f; none = λ k h g. omega arith }
 
 -- none before a record that comes behind a plain one, inside a T, or behind one
@@ -195,18 +194,18 @@ module _ {d i : ℕ} (r : Record) (l : List Record) {b : Refusal} (a : in_range 
       let w = eqb-true r.kind t_kind e in
       record { place = suc (holds r + f.place); is = rw z f.is; fault = behind w f.fault; none = λ k h g. none-behind a w (leb-true (holds r) (length l) c) q f.none h g }
 
-first_bad : (a b : Checked) {x : Refusal} → first_ground a b ≡ Bad x → (a ≡ Bad x) ⊎ ((a ≡ Good) × (b ≡ Bad x))
-first_bad Good b e = inr (refl, e)
-first_bad (Bad r) b e = inl e
+first_bad : (a b : Checked) {x : Refusal} → first_ground a b ≡ Err x → (a ≡ Err x) ⊎ ((a ≡ Ok tt) × (b ≡ Err x))
+first_bad (Ok _) b e = inr (refl, e)
+first_bad (Err r) b e = inl e
 
-fault-first : (n d i : ℕ) (l : List Record) {b : Refusal} → length l ≤ n → fault_in n d i l ≡ Bad b → FirstFault d i l b
+fault-first : (n d i : ℕ) (l : List Record) {b : Refusal} → length l ≤ n → fault_in n d i l ≡ Err b → FirstFault d i l b
 unfolding fault_in
 fault-first zero d i l h e = absurd (bad_good (sym e))
 fault-first (suc n) zero i [] h e = absurd (bad_good (sym e))
 fault-first (suc n) (suc d) i [] h e = absurd (bad_good (sym e))
 fault-first (suc n) zero i (r ∷ l) {b} h e = go (in_range r) (eqb r.kind t_kind) refl refl e (λ f. fault-first n zero (i + 1) l (omega arith) f)
   where
-    go : (t u : Bool) → in_range r ≡ t → eqb r.kind t_kind ≡ u → pick t (pick u (Bad (TableMalformed i)) (fault_in n zero (i + 1) l)) (Bad (TableMalformed i)) ≡ Bad b → (fault_in n zero (i + 1) l ≡ Bad b → FirstFault zero (i + 1) l b) → FirstFault zero i (r ∷ l) b
+    go : (t u : Bool) → in_range r ≡ t → eqb r.kind t_kind ≡ u → pick t (pick u (fault_at i) (fault_in n zero (i + 1) l)) (fault_at i) ≡ Err b → (fault_in n zero (i + 1) l ≡ Err b → FirstFault zero (i + 1) l b) → FirstFault zero i (r ∷ l) b
     go true true a w e f = here e (deep (eqb-true r.kind t_kind w))
     go true false a w e f = first_plain r a w (f e)
     go false u a w e f = here e (range a)
@@ -218,11 +217,11 @@ fault-first (suc n) (suc d) i (r ∷ l) {b} h e =
     (λ f. fault-first n (suc d) (i + 1 + holds r) (drop (holds r) l) (omega (arith, length-drop (holds r) l)) f)
   where
     go : (t u v : Bool) → in_range r ≡ t → eqb r.kind t_kind ≡ u → leb (holds r) (length l) ≡ v
-        → pick t (pick u (pick v (first_ground (fault_in n d (i + 1) (take (holds r) l)) (fault_in n (suc d) (i + 1 + holds r) (drop (holds r) l))) (Bad (TableMalformed i))) (fault_in n (suc d) (i + 1) l)) (Bad (TableMalformed i)) ≡ Bad b
-        → (fault_in n (suc d) (i + 1) l ≡ Bad b → FirstFault (suc d) (i + 1) l b)
-        → (fault_in n d (i + 1) (take (holds r) l) ≡ Bad b → FirstFault d (i + 1) (take (holds r) l) b)
-        → (fault_in n d (i + 1) (take (holds r) l) ≡ Good → Fine d (take (holds r) l))
-        → (fault_in n (suc d) (i + 1 + holds r) (drop (holds r) l) ≡ Bad b → FirstFault (suc d) (i + 1 + holds r) (drop (holds r) l) b) → FirstFault (suc d) i (r ∷ l) b
+        → pick t (pick u (pick v (first_ground (fault_in n d (i + 1) (take (holds r) l)) (fault_in n (suc d) (i + 1 + holds r) (drop (holds r) l))) (fault_at i)) (fault_in n (suc d) (i + 1) l)) (fault_at i) ≡ Err b
+        → (fault_in n (suc d) (i + 1) l ≡ Err b → FirstFault (suc d) (i + 1) l b)
+        → (fault_in n d (i + 1) (take (holds r) l) ≡ Err b → FirstFault d (i + 1) (take (holds r) l) b)
+        → (fault_in n d (i + 1) (take (holds r) l) ≡ Ok tt → Fine d (take (holds r) l))
+        → (fault_in n (suc d) (i + 1 + holds r) (drop (holds r) l) ≡ Err b → FirstFault (suc d) (i + 1 + holds r) (drop (holds r) l) b) → FirstFault (suc d) i (r ∷ l) b
     go true true true a w c e f g q k =
         ⊎_elim
         (λ x. first_inner r l a w c (g x))
@@ -246,13 +245,13 @@ module _ (t : List ℕ) where
 
   module _ {d : ℕ} where
     -- no ground 5: the table is well formed
-    pub ground-formed : table_ground_to d t ≡ Good → WellFormedTo d t
+    pub ground-formed : table_ground_to d t ≡ Ok tt → WellFormedTo d t
     unfolding table_ground_to excess
     ground-formed e =
         let w = first_good (fault d 0 (front t)) (excess t) e in
         go (leb (length rs) most_places) (broken t) refl refl w.1 (fault-fine (length (front t)) d 0 (front t) (le_refl _) w.0)
       where
-        go : (u v : Bool) → leb (length rs) most_places ≡ u → broken t ≡ v → pick u (pick v (Bad (TableMalformed (length rs))) Good) (Bad (TableMalformed most_places)) ≡ Good → Fine d (front t) → WellFormedTo d t
+        go : (u v : Bool) → leb (length rs) most_places ≡ u → broken t ≡ v → pick u (pick v (fault_at (length rs)) (Ok tt)) (fault_at most_places) ≡ Ok tt → Fine d (front t) → WellFormedTo d t
         go true true a b e f = absurd (bad_good e)
         go true false a b e f =
             let few = leb-true (length rs) most_places a in
@@ -261,26 +260,26 @@ module _ (t : List ℕ) where
         go false v a b e f = absurd (bad_good e)
 
     -- a well-formed table has no ground 5
-    pub formed-ground : WellFormedTo d t → table_ground_to d t ≡ Good
+    pub formed-ground : WellFormedTo d t → table_ground_to d t ≡ Ok tt
     unfolding table_ground_to excess
     formed-ground w =
         let z : front t ≡ rs = take_all most_places rs w.few in
         rw (z, fine-fault (length rs) d 0 (le_refl _) w.ranges w.around, le-leb (length rs) most_places w.few, w.whole)
 
     -- what ground 5 is: the first at fault of the first 1,024, or, where none is, what comes behind them
-    pub look : {C : Type 0} → (((k : ℕ) → AtFault d (front t) k → ⊥) → table_ground_to d t ≡ excess t → C) → ((b : Refusal) → FirstFault d 0 (front t) b → table_ground_to d t ≡ Bad b → C) → C
+    pub look : {C : Type 0} → (((k : ℕ) → AtFault d (front t) k → ⊥) → table_ground_to d t ≡ excess t → C) → ((b : Refusal) → FirstFault d 0 (front t) b → table_ground_to d t ≡ Err b → C) → C
     unfolding table_ground_to
     look {C} f g = go (fault d 0 (front t)) refl
       where
         go : (c : Checked) → fault d 0 (front t) ≡ c → C
-        go Good e = let w = fault-fine (length (front t)) d 0 (front t) (le_refl _) e in f (λ k x. no-fault w.ranges w.nested x) (rw e refl)
-        go (Bad b) e = g b (fault-first (length (front t)) d 0 (front t) (le_refl _) e) (rw e refl)
+        go (Ok _) e = let w = fault-fine (length (front t)) d 0 (front t) (le_refl _) e in f (λ k x. no-fault w.ranges w.nested x) (rw e refl)
+        go (Err b) e = g b (fault-first (length (front t)) d 0 (front t) (le_refl _) e) (rw e refl)
 
-    pub ground-first : (b : Refusal) → table_ground_to d t ≡ Bad b → Named d b
+    pub ground-first : (b : Refusal) → table_ground_to d t ≡ Err b → Named d b
     unfolding excess
-    ground-first b e = look (λ none x. go (leb (length rs) most_places) (broken t) refl refl (sym x ∙ e) none) (λ y f g. let k : Bad y ≡ Bad b = sym g ∙ e in let z : y ≡ b = cc in rw z at (record-at-fault f))
+    ground-first b e = look (λ none x. go (leb (length rs) most_places) (broken t) refl refl (sym x ∙ e) none) (λ y f g. let k : ◌≡◌ {A = Checked} (Err y) (Err b) = sym g ∙ e in let z : y ≡ b = cc in rw z at (record-at-fault f))
       where
-        go : (u v : Bool) → leb (length rs) most_places ≡ u → broken t ≡ v → pick u (pick v (Bad (TableMalformed (length rs))) Good) (Bad (TableMalformed most_places)) ≡ Bad b → ((k : ℕ) → AtFault d (front t) k → ⊥) → Named d b
+        go : (u v : Bool) → leb (length rs) most_places ≡ u → broken t ≡ v → pick u (pick v (fault_at (length rs)) (Ok tt)) (fault_at most_places) ≡ Err b → ((k : ℕ) → AtFault d (front t) k → ⊥) → Named d b
         go true true p q e f = let z : TableMalformed (length rs) ≡ b = cc in rw z at (broken_last f (leb-true (length rs) most_places p) q)
         go true false p q e f = absurd (bad_good (sym e))
         go false v p q e f = let z : TableMalformed most_places ≡ b = cc in rw z at (too_many f (leb-false (length rs) most_places p))

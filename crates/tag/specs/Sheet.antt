@@ -1,10 +1,9 @@
 -- Worked examples, by computation: the range of every class of word and every rule that joins words, at its limit and one beyond;
 -- faults and their places; tags and their records.
-use Rattle.std.specs.Prelude.{◌≡◌, refl, List, [], ◌∷◌, ◌++◌, map, Bool, true, false, ℕ, zero, suc}
+use Rattle.std.specs.Prelude.{◌≡◌, refl, List, [], ◌∷◌, ◌++◌, map, Bool, true, false, ℕ, zero, suc, Ok, Err}
 use Rattle.std.specs.Float.Ieee.{of_bits}
 use Rattle.float.specs.Float.{in_reach_lem}
-use Rattle.refusal.specs.declared.Checked.{Checked}
-use Rattle.refusal.specs.declared.Checked.TheVariants.{Good, Bad}
+use Rattle.refusal.specs.Refusal.{Checked}
 use Rattle.refusal.specs.declared.Refusal.TheVariants.{TableMalformed}
 use Rattle.tag.specs.declared.Record.{Record}
 use Rattle.tag.specs.Table.{rec, table_words}
@@ -139,37 +138,37 @@ abbrev Grounds : ℕ → List (List ℕ × Checked) → Type 0
 Grounds d rows = map (λ (r : List ℕ × Checked). table_ground_to d r.0) rows ≡ map (λ (r : List ℕ × Checked). r.1) rows
 
 pub faults : Grounds most_depth (
-    ([], Good) ∷
-    (table_words (b1 ∷ t 1 ∷ b1 ∷ []), Good) ∷
+    ([], Ok tt) ∷
+    (table_words (b1 ∷ t 1 ∷ b1 ∷ []), Ok tt) ∷
     -- a \b of 50, and one that is not the first at fault
-    (table_words (b1 ∷ rec 42 50 0 0 0 0 0 0 ∷ []), Bad (TableMalformed 1)) ∷
-    (table_words (rec 42 50 0 0 0 0 0 0 ∷ rec 0 0 0 0 0 0 0 0 ∷ []), Bad (TableMalformed 0)) ∷
+    (table_words (b1 ∷ rec 42 50 0 0 0 0 0 0 ∷ []), Err (TableMalformed 1)) ∷
+    (table_words (rec 42 50 0 0 0 0 0 0 ∷ rec 0 0 0 0 0 0 0 0 ∷ []), Err (TableMalformed 0)) ∷
     -- a \t that ends past the table, one past its outer, one at its outer's end
-    (table_words (t 2 ∷ b1 ∷ []), Bad (TableMalformed 0)) ∷
-    (table_words (t 1 ∷ t 1 ∷ b1 ∷ []), Bad (TableMalformed 1)) ∷
-    (table_words (t 2 ∷ t 1 ∷ b1 ∷ b1 ∷ []), Good) ∷
+    (table_words (t 2 ∷ b1 ∷ []), Err (TableMalformed 0)) ∷
+    (table_words (t 1 ∷ t 1 ∷ b1 ∷ []), Err (TableMalformed 1)) ∷
+    (table_words (t 2 ∷ t 1 ∷ b1 ∷ b1 ∷ []), Ok tt) ∷
     -- sixteen \t, and seventeen
-    (table_words (nest 16), Good) ∷
-    (table_words (nest 17), Bad (TableMalformed 16)) ∷
+    (table_words (nest 16), Ok tt) ∷
+    (table_words (nest 17), Err (TableMalformed 16)) ∷
     -- a broken record, alone and behind one at fault
-    (table_words (b1 ∷ []) ++ (1 ∷ []), Bad (TableMalformed 1)) ∷
-    (table_words (rec 50 0 0 0 0 0 0 0 ∷ []) ++ (1 ∷ []), Bad (TableMalformed 0)) ∷
+    (table_words (b1 ∷ []) ++ (1 ∷ []), Err (TableMalformed 1)) ∷
+    (table_words (rec 50 0 0 0 0 0 0 0 ∷ []) ++ (1 ∷ []), Err (TableMalformed 0)) ∷
     [])
 unfolding table_ground_to excess fault_in records_to table_words in_range rows of_bits in_reach_lem
 faults = refl
 
 -- 02, N7: "a controller still at eight"
 pub faults_at_eight : Grounds 8 (
-    (table_words (nest 8), Good) ∷
-    (table_words (nest 9), Bad (TableMalformed 8)) ∷
-    (table_words (nest 16), Bad (TableMalformed 8)) ∷
+    (table_words (nest 8), Ok tt) ∷
+    (table_words (nest 9), Err (TableMalformed 8)) ∷
+    (table_words (nest 16), Err (TableMalformed 8)) ∷
     -- the ninth is at fault itself, also if it is empty; behind eight that hold no more, a further \t is not
-    (table_words (t 8 ∷ t 7 ∷ t 6 ∷ t 5 ∷ t 4 ∷ t 3 ∷ t 2 ∷ t 1 ∷ t 0 ∷ []), Bad (TableMalformed 8)) ∷
-    (table_words (t 7 ∷ t 6 ∷ t 5 ∷ t 4 ∷ t 3 ∷ t 2 ∷ t 1 ∷ t 0 ∷ t 0 ∷ []), Good) ∷
-    (table_words (nest 8 ++ nest 9), Bad (TableMalformed 17)) ∷
+    (table_words (t 8 ∷ t 7 ∷ t 6 ∷ t 5 ∷ t 4 ∷ t 3 ∷ t 2 ∷ t 1 ∷ t 0 ∷ []), Err (TableMalformed 8)) ∷
+    (table_words (t 7 ∷ t 6 ∷ t 5 ∷ t 4 ∷ t 3 ∷ t 2 ∷ t 1 ∷ t 0 ∷ t 0 ∷ []), Ok tt) ∷
+    (table_words (nest 8 ++ nest 9), Err (TableMalformed 17)) ∷
     -- another fault before it comes first, one behind it does not
-    (table_words (rec 42 50 0 0 0 0 0 0 ∷ nest 9), Bad (TableMalformed 0)) ∷
-    (table_words (nest 9 ++ (rec 42 50 0 0 0 0 0 0 ∷ [])), Bad (TableMalformed 8)) ∷
+    (table_words (rec 42 50 0 0 0 0 0 0 ∷ nest 9), Err (TableMalformed 0)) ∷
+    (table_words (nest 9 ++ (rec 42 50 0 0 0 0 0 0 ∷ [])), Err (TableMalformed 8)) ∷
     [])
 unfolding table_ground_to excess fault_in records_to table_words in_range rows of_bits in_reach_lem
 faults_at_eight = refl

@@ -1,10 +1,8 @@
 -- 01, A table record: "A table is well formed if", and ground 5, the first record at fault.
-use Rattle.std.specs.Prelude.{◌≡◌, List, [], ◌∷◌, Bool, true, false, ℕ, zero, suc, ◌+◌, ◌%◌, ◌≤◌, ◌<◌, leb, eqb, length, get_or, take, drop}
+use Rattle.std.specs.Prelude.{◌≡◌, List, [], ◌∷◌, Bool, true, false, ℕ, zero, suc, ◌+◌, ◌%◌, ◌≤◌, ◌<◌, leb, eqb, length, get_or, take, drop, Ok, Err}
 use Rattle.scan.specs.Scan.{pick}
-use Rattle.refusal.specs.Refusal.{most_places}
+use Rattle.refusal.specs.Refusal.{Checked, most_places}
 use Rattle.refusal.specs.Answer.{first_ground}
-use Rattle.refusal.specs.declared.Checked.{Checked}
-use Rattle.refusal.specs.declared.Checked.TheVariants.{Good, Bad}
 use Rattle.refusal.specs.declared.Refusal.TheVariants.{TableMalformed}
 use Rattle.tag.specs.declared.Record.{Record}
 use Rattle.tag.specs.Tag.{most_depth}
@@ -68,14 +66,14 @@ WellFormed t = WellFormedTo most_depth t
 -- ---- ground 5: the first record at fault
 
 -- a record at fault, its index, in records of which the first has the index i
-abbrev fault_at : ℕ → Checked
-fault_at i = Bad (TableMalformed i)
+abbrev pub fault_at : ℕ → Checked
+fault_at i = Err (TableMalformed i)
 
 -- The first at fault among records of which the first has the index i, with d more levels of T allowed, over at most n of them. A T that
 -- reaches past the end of what encloses it is at fault itself, and so is one too deep.
 unfoldable pub fault_in : ℕ → ℕ → ℕ → List Record → Checked
-fault_in zero d i l = Good
-fault_in (suc n) d i [] = Good
+fault_in zero d i l = Ok tt
+fault_in (suc n) d i [] = Ok tt
 fault_in (suc n) zero i (r ∷ l) =
     let more = fault_in n zero (i + 1) l in
     pick (in_range r) (pick (eqb r.kind t_kind) (fault_at i) more) (fault_at i)
@@ -90,7 +88,7 @@ fault d i l = fault_in (length l) d i l
 
 -- the excess comes behind the 1,024th record, a broken record behind the whole ones
 unfoldable pub excess : List ℕ → Checked
-excess t = pick (leb (length (records_of t)) most_places) (pick (broken t) (fault_at (length (records_of t))) Good) (fault_at most_places)
+excess t = pick (leb (length (records_of t)) most_places) (pick (broken t) (fault_at (length (records_of t))) (Ok tt)) (fault_at most_places)
 
 -- the records that are looked at: at most 1,024
 abbrev pub front : List ℕ → List Record
