@@ -1,8 +1,8 @@
 -- The laws of rows, for a table of records.
 use mathlib.Core.Path.{◌≡◌, refl}
 use mathlib.Core.List.{List, [], ◌∷◌, ◌++◌}
-use lib.Seq.{drop-drop, sets}
-use Prim.Native.Nat.{ℕ, suc, ◌+◌, ◌*◌, ◌≤◌, ◌<◌, min}
+use lib.Seq.{drop-drop}
+use Prim.Native.Nat.{ℕ, suc, ◌+◌, ◌*◌, ◌≤◌, min}
 use native.Mathlib.Omega.{arith}
 use lib.ListN.{length, take, drop, length-drop}
 use Rattle.rows.proofs.Laws as rows
@@ -30,12 +30,6 @@ laid_step t g rs n m m' e e' = rows.laid_step width words wide t g rs n m m' e e
 -- an empty table stays empty
 pub laid_none : (rs : List Record) → laid [] rs ≡ []
 laid_none rs = rows.laid_none width words (omega arith) rs
-
-pub put_room : (t : List ℕ) (r : Record) → width ≤ length t → sets t 0 (words r) ≡ laid t (r ∷ [])
-put_room t r h = rows.put_room width words wide t r h
-
-pub put_none : (t : List ℕ) (r : Record) → length t < width → t ≡ laid t (r ∷ [])
-put_none t r h = rows.put_none width words wide t r h
 
 -- with room for all, the table is the records' words and then the rest of what it held
 pub laid_full : (rs : List Record) (t : List ℕ) → width * length rs ≤ length t → laid t rs ≡ table_words rs ++ drop (width * length rs) t

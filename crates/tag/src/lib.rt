@@ -2,7 +2,7 @@
 #![tactic(auto)]
 
 ghost use Rattle.std.specs.Prelude.{◌≡◌, [], ◌∷◌};
-ghost use Rattle.tag.specs.Table.{laid};
+ghost use Rattle.tag.specs.Table.{words, kind_word, laid};
 
 // 01, A table record: the kind, then seven words.
 #[derive(Clone, Copy, Drop)]
@@ -17,6 +17,17 @@ pub struct Record {
     pub w7: u32,
 }
 
+impl Record {
+    // The kind, then the seven words.
+    pub fn words(self) -> [u32; 8]
+        ensures { result ≡ words self }
+    {
+        [
+            self.kind, self.w1, self.w2, self.w3, self.w4, self.w5, self.w6, self.w7,
+        ]
+    }
+}
+
 // Which of the \k tags: \k, \kf and \K, \ko.
 #[derive(Clone, Copy, Drop)]
 pub enum KaraokeKind {
@@ -25,22 +36,27 @@ pub enum KaraokeKind {
     Outline,
 }
 
+// The number that stands for it in a record.
+impl From<KaraokeKind> for u32 {
+    ghost from_gives = { λ k n. n ≡ kind_word k };
+
+    fn from(kind: KaraokeKind) -> u32 {
+        match kind {
+            KaraokeKind::Fill => 0,
+            KaraokeKind::Sweep => 1,
+            KaraokeKind::Outline => 2,
+        }
+    }
+}
+
 // Centiseconds, in which a karaoke tag counts: never taken for milliseconds.
 #[derive(Clone, Copy, Drop)]
 pub struct Cs(pub u32);
 
 // Writes a record at the front of the table, where there is room for it.
+#[tactic(auto, unfolding(rows::specs::Rows::laid_rows))]
 pub fn put(table: &mut [u32], r: Record)
     ensures { table.new ≡ laid table.old (r ∷ []) }
 {
-    if 8 <= table.len() {
-        table[0] = r.kind;
-        table[1] = r.w1;
-        table[2] = r.w2;
-        table[3] = r.w3;
-        table[4] = r.w4;
-        table[5] = r.w5;
-        table[6] = r.w6;
-        table[7] = r.w7;
-    }
+    rows::put(table, r.words());
 }
