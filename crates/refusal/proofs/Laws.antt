@@ -9,8 +9,7 @@ use lib.Dec.{lit≤, leb}
 use native.Mathlib.Nat.{le_trans}
 use lib.ListN.{length}
 use borrow.Author.Tests.{lt-ltb, leb-true}
-use Rattle.scan.specs.Scan.{pick, in_class, span_to}
-use Rattle.scan.specs.declared.Class.TheVariants.{Below}
+use Rattle.scan.specs.Scan.{pick, below, span_to}
 use Rattle.scan.proofs.Laws.{picked, le_or_lt}
 use Rattle.scan.proofs.Bounds.{tested}
 use Rattle.refusal.specs.declared.Refusal.TheVariants.{NoRoom}
@@ -44,7 +43,7 @@ room_within s n places l h = picked (Within s) (leb n (min places most_places)) 
 pub text-within : (s : List ℕ) (a : Answer) → (length s ≤ most_bytes → Within s a) → Within s (unless_bad (text_ground s) a)
 unfolding text_ground
 text-within s a h =
-    let k = span_to (in_class (Below 128)) s 0 (length s) in
+    let k = span_to (below 128) s 0 (length s) in
     tested Lies most_bytes (length s)
     (λ (l : most_bytes < length s). (omega arith, omega arith))
     (λ (l : length s ≤ most_bytes). tested Lies k (length s) (λ (m : k < length s). (omega arith, omega arith)) (λ (m : length s ≤ k). h l))

@@ -1,7 +1,6 @@
 -- 01, Grounds for turning a call down: the number of each, and the place or count stated beside it, else 0.
 use Rattle.std.specs.Prelude.{List, ℕ, ltb, length, Result, Ok, Err}
-use Rattle.scan.specs.Scan.{pick, in_class, span_to}
-use Rattle.scan.specs.declared.Class.TheVariants.{Below}
+use Rattle.scan.specs.Scan.{pick, below, span_to}
 use Rattle.refusal.specs.declared.Refusal.{Refusal}
 use Rattle.refusal.specs.declared.Refusal.TheVariants.{TextTooLong, NotAscii, NumeralTooLong, FadeTooFar, TableMalformed, TimeOutOfRange, ScaleTooLarge, NameBeyondText, NoRoom}
 
@@ -41,5 +40,5 @@ most_places = 1024
 -- grounds 1 and 2, on the text given
 unfoldable pub text_ground : List ℕ → Checked
 text_ground s =
-    let a = span_to (in_class (Below 128)) s 0 (length s) in
+    let a = span_to (below 128) s 0 (length s) in
     pick (ltb most_bytes (length s)) (Err TextTooLong) (pick (ltb a (length s)) (Err (NotAscii a)) (Ok tt))

@@ -62,7 +62,7 @@ pub fn check_text(text: &[u8]) -> Result<(), Refusal>
     if text.len() > 12288 {
         return Err(Refusal::TextTooLong);
     }
-    let a = scan::span(text, scan::Class::Below(128), 0, text.len());
+    let a = scan::below(text, 128, 0, text.len());
     if a < text.len() {
         return Err(Refusal::NotAscii(a));
     }
