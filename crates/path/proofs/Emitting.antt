@@ -1,42 +1,43 @@
 -- Commands written one behind the other.
-use mathlib.Core.Path.{◌≡◌, refl, sym, ap, ◌∙◌}
+use mathlib.Core.Path.{◌≡◌, refl, sym, ◌∙◌}
 use mathlib.Core.List.{List, [], ◌∷◌, ◌++◌}
-use Prim.Native.Nat.{ℕ, ◌+◌, ◌-◌, ◌*◌, ◌≤◌, ◌<◌, min}
+use Prim.Native.Nat.{ℕ, ◌+◌, ◌*◌, ◌≤◌, ◌<◌, min}
 use native.Mathlib.Omega.{arith}
 use lib.ListN.{length, take, drop, length-append, length-drop, take-append-drop}
-use lib.Seq.{length-take-le, sets}
+use lib.Seq.{length-take-le}
 use Rattle.path.specs.declared.PathCommand.{PathCommand}
+use Rattle.path.specs.declared.PathCommand.TheVariants.{MoveTo, LineTo, CubicTo, Close}
 use Rattle.rows.specs.Rows.{laid_rows}
 use Rattle.rows.proofs.Laws as rows
-use Rattle.rows.proofs.Laws.{rest-is, rest_back}
 use Rattle.path.specs.Path.{command_width, command_words, laid_path}
 use Rattle.path.specs.Inner.{Emits}
 
 wide : (c : PathCommand) → length (command_words c) ≡ command_width
-wide c = refl
+wide (MoveTo p) = refl
+wide (LineTo p) = refl
+wide (CubicTo p q r) = refl
+wide Close = refl
 
 length-laid : (cs : List PathCommand) (t : List ℕ) → length (laid_path t cs) ≡ length t
 length-laid cs t = rows.length-laid command_width command_words wide cs t
-
--- a command is written where there is room for it
-pub put_room : (t : List ℕ) (c : PathCommand) → command_width ≤ length t → sets t 0 (command_words c) ≡ laid_path t (c ∷ [])
-put_room t c h = rows.put_room command_width command_words wide t c h
-
-pub put_none : (t : List ℕ) (c : PathCommand) → length t < command_width → t ≡ laid_path t (c ∷ [])
-put_none t c h = rows.put_none command_width command_words wide t c h
 
 pub emits_none : (t : List ℕ) (n : ℕ) → Emits t n [] n t
 unfolding laid_rows
 emits_none t n = record { count = omega arith; path = sym (take-append-drop (min (command_width * n) (length t)) t) }
 
--- what is written into the part from k on, which is lent and holds u then
-pub emits_one : (t u : List ℕ) (n k : ℕ) (r : PathCommand) → k ≡ min (command_width * n) (length t) → u ≡ laid_path (take (length t - k) (drop k t)) (r ∷ [])
-    → Emits t n (r ∷ []) (n + 1) (take k t ++ (u ++ drop (length t - k) (drop k t)))
-emits_one t u n k r e q =
-    record {
-      count = omega arith;
-      path = rw (← e) (rest_back k t u (omega arith) ∙ ap (λ (l : List ℕ). take k t ++ l) (q ∙ ap (λ (l : List ℕ). laid_path l (r ∷ [])) (rest-is k t)));
-    }
+-- a command is written where there is room for it
+pub emits_room : (t u : List ℕ) (n k : ℕ) (c : PathCommand) → command_width * n + command_width ≤ length t → k ≡ command_width → u ≡ command_words c
+    → Emits t n (c ∷ []) (n + 1) (take (command_width * n) t ++ (u ++ drop k (drop (command_width * n) t)))
+emits_room t u n k c h e q =
+    let z : min (command_width * n) (length t) ≡ command_width * n = omega arith in
+    let l : command_width ≤ length (drop (command_width * n) t) = omega (arith, length-drop (command_width * n) t) in
+    record { count = omega arith; path = rw (z, e, q, rows.laid_more command_width command_words (drop (command_width * n) t) c [] l, rows.laid_nil command_width command_words (drop command_width (drop (command_width * n) t))) }
+
+pub emits_full : (t : List ℕ) (n : ℕ) (c : PathCommand) → length t < command_width * n + command_width → Emits t n (c ∷ []) (n + 1) t
+emits_full t n c h =
+    let k = min (command_width * n) (length t) in
+    let l : length (drop k t) < command_width = omega (arith, length-drop k t) in
+    record { count = omega arith; path = rw (rows.laid-short command_width command_words (drop k t) (c ∷ []) l) (sym (take-append-drop k t)) }
 
 pub emits-length : {t u : List ℕ} {n m : ℕ} {cs : List PathCommand} → Emits t n cs m u → length u ≡ length t
 emits-length {t} {u} {n} {m} {cs} e =

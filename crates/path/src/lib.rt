@@ -2,8 +2,9 @@
 #![tactic(auto)]
 
 ghost use Rattle.std.specs.Prelude.{◌≡◌, [], ◌∷◌, ◌<◌};
-ghost use Rattle.path.specs.Path.{laid_path, move_to, line_to, cubic_to, closed};
-ghost use Rattle.path.specs.Inner.{Emits};
+ghost use Rattle.rows.specs.Rows.{bits};
+ghost use Rattle.path.specs.Path.{command_words};
+ghost use Rattle.path.specs.Inner.{Begins, Writes};
 
 #[derive(Clone, Copy, Drop)]
 pub struct Point {
@@ -11,133 +12,77 @@ pub struct Point {
     pub y: f32,
 }
 
-// 01, "`Path`: a lent table of eight words a command": its kind, then seven words.
-#[derive(Clone, Copy, Drop)]
-pub struct PathCommand {
-    pub kind: u32,
-    pub w1: u32,
-    pub w2: u32,
-    pub w3: u32,
-    pub w4: u32,
-    pub w5: u32,
-    pub w6: u32,
-    pub w7: u32,
-}
-
-// Writes a command at the front of the path, where there is room for it.
-fn put(path: &mut [u32], c: PathCommand)
-    ensures { path.new ≡ laid_path path.old (c ∷ []) }
-{
-    if 8 <= path.len() {
-        path[0] = c.kind;
-        path[1] = c.w1;
-        path[2] = c.w2;
-        path[3] = c.w3;
-        path[4] = c.w4;
-        path[5] = c.w5;
-        path[6] = c.w6;
-        path[7] = c.w7;
+impl Point {
+    fn words(self) -> (u32, u32)
+        ensures { (result.0 ≡ bits self.x) × (result.1 ≡ bits self.y) }
+    {
+        (float::word_of_f32(self.x), float::word_of_f32(self.y))
     }
 }
 
-// Writes a command behind the n that there are, where there is room for it. There are far fewer than 65,536: a text has at most 12,288 bytes, and each gives at most two.
-fn emit(c: PathCommand, n: usize, path: &mut [u32]) -> usize
-    requires { n < 65536 }
-    ensures { Emits path.old n (c ∷ []) result path.new }
-{
-    let start = scan::least(8 * n, path.len());
-    put(&mut path[start..], c);
-    n + 1
+#[derive(Clone, Copy, Drop)]
+pub enum PathCommand {
+    MoveTo(Point),
+    LineTo(Point),
+    // Its two control points, and its end.
+    CubicTo(Point, Point, Point),
+    Close,
 }
 
-// For the compiler (MEASURED, Shapes for the compiler): written out, and not through a function that it shares with `line_to`.
-pub fn move_to(p: Point, n: usize, path: &mut [u32]) -> usize
-    requires { n < 65536 }
-    ensures { Emits path.old n (move_to p ∷ []) result path.new }
-{
-    let a = float::word_of_f32(p.x);
-    let b = float::word_of_f32(p.y);
-    emit(
-        PathCommand {
-            kind: 1,
-            w1: a,
-            w2: b,
-            w3: 0,
-            w4: 0,
-            w5: 0,
-            w6: 0,
-            w7: 0,
-        },
-        n,
-        path,
-    )
+impl PathCommand {
+    // 01, "`Path`: a lent table of eight words a command": its kind, then seven words.
+    fn words(self) -> [u32; 8]
+        ensures { result ≡ command_words self }
+    {
+        match self {
+            PathCommand::MoveTo(p) => {
+                let (x, y) = p.words();
+                [1, x, y, 0, 0, 0, 0, 0]
+            }
+            PathCommand::LineTo(p) => {
+                let (x, y) = p.words();
+                [2, x, y, 0, 0, 0, 0, 0]
+            }
+            PathCommand::CubicTo(p, q, r) => {
+                let (a, b) = p.words();
+                let (c, d) = q.words();
+                let (e, f) = r.words();
+                [3, a, b, c, d, e, f, 0]
+            }
+            PathCommand::Close => [4, 0, 0, 0, 0, 0, 0, 0],
+        }
+    }
 }
 
-// For the compiler (MEASURED, Shapes for the compiler): written out, and not through a function that it shares with `move_to`.
-pub fn line_to(p: Point, n: usize, path: &mut [u32]) -> usize
-    requires { n < 65536 }
-    ensures { Emits path.old n (line_to p ∷ []) result path.new }
-{
-    let a = float::word_of_f32(p.x);
-    let b = float::word_of_f32(p.y);
-    emit(
-        PathCommand {
-            kind: 2,
-            w1: a,
-            w2: b,
-            w3: 0,
-            w4: 0,
-            w5: 0,
-            w6: 0,
-            w7: 0,
-        },
-        n,
-        path,
-    )
+// A path that is being written: its words, which are lent, and how many commands there are so far, with those for which there was no room.
+#[derive(Drop)]
+pub struct PathWriter<'a> {
+    words: &'a mut [u32],
+    count: usize,
 }
 
-pub fn cubic_to(p: Point, q: Point, r: Point, n: usize, path: &mut [u32]) -> usize
-    requires { n < 65536 }
-    ensures { Emits path.old n (cubic_to p q r ∷ []) result path.new }
-{
-    let a = float::word_of_f32(p.x);
-    let b = float::word_of_f32(p.y);
-    let c = float::word_of_f32(q.x);
-    let d = float::word_of_f32(q.y);
-    let e = float::word_of_f32(r.x);
-    let f = float::word_of_f32(r.y);
-    emit(
-        PathCommand {
-            kind: 3,
-            w1: a,
-            w2: b,
-            w3: c,
-            w4: d,
-            w5: e,
-            w6: f,
-            w7: 0,
-        },
-        n,
-        path,
-    )
-}
+impl<'a> PathWriter<'a> {
+    pub fn new(words: &'a mut [u32]) -> PathWriter<'a>
+        ensures { Begins words.entry result }
+    {
+        PathWriter { words, count: 0 }
+    }
 
-pub fn close(n: usize, path: &mut [u32]) -> usize
-    requires { n < 65536 }
-    ensures { Emits path.old n (closed ∷ []) result path.new }
-{
-    emit(
-        PathCommand {
-            kind: 4,
-            w1: 0,
-            w2: 0,
-            w3: 0,
-            w4: 0,
-            w5: 0,
-            w6: 0,
-            w7: 0,
-        },
-        n,
-        path,
-    )
+    pub fn count(&self) -> usize
+        ensures { result ≡ self.now.count }
+    {
+        self.count
+    }
+
+    // Writes a command behind those that there are, where there is room for it. There are far fewer than 65,536: a text has at most 12,288 bytes, and each gives at most two.
+    pub fn push(&mut self, command: PathCommand)
+        requires { self.old.count < 65536 }
+        ensures { Writes self.old (command ∷ []) self.new }
+    {
+        let start = 8 * self.count;
+        if start + 8 <= self.words.len() {
+            self.words[start..start + 8].copy_from_slice(&command.words());
+        }
+        self.count += 1;
+    }
 }
