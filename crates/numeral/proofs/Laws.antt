@@ -1,14 +1,15 @@
 -- Laws of digits and of what they write.
-use mathlib.Core.Path.{◌≡◌, refl, sym, ◌∙◌}
+use mathlib.Core.Path.{◌≡◌, refl, sym, ap, ◌∙◌}
 use mathlib.Core.List.{List}
 use mathlib.Core.Bool.{Bool, true, false}
 use mathlib.Core.Logic.{⊎_elim}
-use Prim.Native.Nat.{ℕ, zero, suc, ◌+◌, ◌-◌, ◌*◌, ◌^◌, ◌≤◌, ◌<◌, min}
+use Prim.Native.Nat.{ℕ, zero, suc, ◌+◌, ◌-◌, ◌*◌, ◌^◌, ◌%◌, ◌≤◌, ◌<◌, min}
 use native.Mathlib.Omega.{arith}
 use native.Mathlib.Numerals.{add-one}
 use native.Mathlib.Nat.{le_refl, le_trans, le-mul_of_pos_right, min-eq_left, min-eq_right, min-le_right, mul-le-mul_right, pow-zero, pow-suc, pow-succ', pow-le-pow_right, mul_assoc, add-mul, one-mul, lt_of_lt_of_le, lt_of_le_of_lt, add-le-add, mul-le-mul, mul-le-mul_left}
 use lib.ListN.{get_or}
 use lib.Dec.{ltb, leb, lit<}
+use Rattle.std.specs.Prelude.{Option, Some, None}
 use lib.IntN.{ℤ, pos, neg_ℤ}
 use lib.Ieee.{Float}
 use lib.Pow.{pow-add}
@@ -16,6 +17,7 @@ use borrow.Author.Tests.{eq-eqb, ne_eqb, lt-ltb, le-ltb, le-leb, lt-leb, ltb-tru
 use Rattle.scan.specs.Scan.{pick, digit_of, digit, span, span_to, past}
 use Rattle.scan.proofs.Laws.{le_or_lt, more, none, span-low, digit-below, digit-decimal, digit-between, digit_upper, digit_middle, digit-lower, digit-above, no-decimal}
 use Rattle.float.specs.Float.{to_word}
+use Rattle.numeral.specs.declared.Numeral.{Numeral}
 use Rattle.numeral.specs.declared.Numeral.TheVariants.{No, Word}
 use Rattle.numeral.specs.declared.Decimal.{Decimal}
 use Rattle.numeral.specs.Numeral.{is_digit, is_sign, is_minus, is_plus, value, most, whole_number, word_of_i32, I32, i32_of, up_to, hex_at, split_at, F32, digits_of, before, behind, float_of, limited, exponent_start, exponent_of, with_exponent, ends_at, f32_of}
@@ -125,40 +127,47 @@ pub hex_is : (s : List ℕ) (a b i v : ℕ) → i ≡ past is_plus s a b → v �
 unfolding hex_at
 hex_is s a b i v p q = rw (q, p) (up_to-capped most (whole_number 16 s (past is_plus s a b) b) 4294967295 (lit< tt))
 
+-- the word of a number, where there is one
+abbrev pub of_word : Option ℕ → Numeral
+of_word None = No
+of_word (Some w) = Word w
+
 -- the words of both signs
-plus_word : (t : Bool) (v : ℕ) → word_of_i32 (pick t (I32.whole (pos v)) I32.none) ≡ pick t (Word v) No
+plus_word : (t : Bool) (v : ℕ) → word_of_i32 (pick t (I32.whole (pos v)) I32.none) ≡ of_word (pick t (Some v) None)
 plus_word true v = refl
 plus_word false v = refl
 
-minus_word : (v : ℕ) → ¬ (v ≡ 0) → to_word (neg_ℤ (pos v)) ≡ 4294967296 - v
-minus_word zero z = absurd (z refl)
-minus_word (suc n) z = refl
+minus_word : (v y : ℕ) → v ≤ 2147483648 → y < 2 ^ 32 → (y + v) % 2 ^ 32 ≡ 0 → to_word (neg_ℤ (pos v)) ≡ y
+minus_word zero y h f m = omega arith
+minus_word (suc n) y h f m = omega arith
+
+some_up_to : (v l w : ℕ) → Some w ≡ up_to v l → (w ≡ v) × (v ≤ l)
+some_up_to v l w q =
+    ⊎_elim (λ (h : v ≤ l). let e = rw (le-leb v l h) at q in (cc, h)) (λ (h : l < v). let e = rw (lt-leb v l h) at q in absurd (cc)) (le_or_lt v l)
+
+none_up_to : (v l : ℕ) → ◌≡◌ {A = Option ℕ} None (up_to v l) → l < v
+none_up_to v l q = ⊎_elim (λ (h : v ≤ l). let e = rw (le-leb v l h) at q in absurd (cc)) (λ (h : l < v). h) (le_or_lt v l)
 
 -- an i32 by its sign, at j behind a minus, and its size v, capped
 module _ (s : List ℕ) (a b i j v : ℕ) (p : i ≡ past is_sign s a b) (m : j ≡ past is_minus s a b) (q : v ≡ min most (whole_number 10 s i b)) where
-  pub i32_plus : j ≡ a → up_to v 2147483647 ≡ word_of_i32 (i32_of s a b)
+  pub i32_plus : j ≡ a → of_word (up_to v 2147483647) ≡ word_of_i32 (i32_of s a b)
   unfolding i32_of
   i32_plus h =
       rw (← p, ← m, eq-eqb j a h, q, plus_word (leb (whole_number 10 s i b) 2147483647) (whole_number 10 s i b))
-      (up_to-capped most (whole_number 10 s i b) 2147483647 (lit< tt))
+      (ap of_word (up_to-capped most (whole_number 10 s i b) 2147483647 (lit< tt)))
 
-  pub i32_zero : ¬ (j ≡ a) → v ≡ 0 → Word 0 ≡ word_of_i32 (i32_of s a b)
+  pub i32_minus : (w y : ℕ) → ¬ (j ≡ a) → Some w ≡ up_to v 2147483648 → y < 2 ^ 32 → (y + w) % 2 ^ 32 ≡ 0 → Word y ≡ word_of_i32 (i32_of s a b)
   unfolding i32_of
-  i32_zero h z =
-      let e : whole_number 10 s i b ≡ v = uncapped most (whole_number 10 s i b) v q (rw z (lit< tt)) in
-      rw (← p, ← m, ne_eqb j a h, e, z)
+  i32_minus w y h u f z =
+      let x = some_up_to v 2147483648 w u in
+      let e : whole_number 10 s i b ≡ v = uncapped most (whole_number 10 s i b) v q (lt_of_le_of_lt x.1 (lit< tt)) in
+      rw (← p, ← m, ne_eqb j a h, e, le-leb v 2147483648 x.1, minus_word v y x.1 f (rw x.0 at z))
 
-  pub i32_minus : ¬ (j ≡ a) → ¬ (v ≡ 0) → v ≤ 2147483648 → Word (4294967296 - v) ≡ word_of_i32 (i32_of s a b)
+  pub i32_far : ¬ (j ≡ a) → ◌≡◌ {A = Option ℕ} None (up_to v 2147483648) → No ≡ word_of_i32 (i32_of s a b)
   unfolding i32_of
-  i32_minus h z l =
-      let e : whole_number 10 s i b ≡ v = uncapped most (whole_number 10 s i b) v q (lt_of_le_of_lt l (lit< tt)) in
-      rw (← p, ← m, ne_eqb j a h, e, le-leb v 2147483648 l, minus_word v z)
-
-  pub i32_far : ¬ (j ≡ a) → 2147483648 < v → No ≡ word_of_i32 (i32_of s a b)
-  unfolding i32_of
-  i32_far h l =
+  i32_far h u =
       let k : v ≤ whole_number 10 s i b = rw q (min-le_right most (whole_number 10 s i b)) in
-      rw (← p, ← m, ne_eqb j a h, lt-leb (whole_number 10 s i b) 2147483648 (lt_of_lt_of_le l k))
+      rw (← p, ← m, ne_eqb j a h, lt-leb (whole_number 10 s i b) 2147483648 (lt_of_lt_of_le (none_up_to v 2147483648 u) k))
 
 -- a numeral by the digits on both sides of its point
 module _ (a : ℕ) (d : Decimal) (x : ℤ) (y : Float) where

@@ -1,5 +1,5 @@
 -- Numbers as text writes them. 01, Numerals.
-use Rattle.std.specs.Prelude.{List, Bool, true, false, ℕ, zero, suc, ◌+◌, ◌-◌, ◌*◌, ◌^◌, get_or, ltb, leb, eqb, ℤ, pos, negsuc, neg_ℤ, Float}
+use Rattle.std.specs.Prelude.{List, Bool, true, false, ℕ, zero, suc, ◌+◌, ◌-◌, ◌*◌, ◌^◌, get_or, ltb, leb, eqb, Option, Some, None, ℤ, pos, negsuc, neg_ℤ, Float}
 use Rattle.std.specs.Float.{binary32}
 use Rattle.std.specs.Float.Ieee.{round, to_bits}
 use Rattle.scan.specs.Scan.{pick, digit_of, digit, only, one_of, span_to, past, trim_start, trim_end}
@@ -26,6 +26,18 @@ is_point b = only 46 b
 
 abbrev pub is_e : ℕ → Bool
 is_e b = one_of 69 101 b
+
+-- the word of a number
+abbrev pub word : Numeral → Option ℕ
+word No = None
+word (TooLong p) = None
+word (Word w) = Some w
+
+-- the place of a numeral that is too long
+abbrev pub too_long : Numeral → Option ℕ
+too_long No = None
+too_long (TooLong p) = Some p
+too_long (Word w) = None
 
 -- the number that n digits of a radix from i on write behind a
 unfoldable pub value : ℕ → List ℕ → ℕ → ℕ → ℕ → ℕ
@@ -63,11 +75,11 @@ i32_at s p q =
     let a = trim_start s p q in
     i32_of s a (trim_end s a q)
 
-abbrev pub up_to : ℕ → ℕ → Numeral
-up_to v limit = pick (leb v limit) (Word v) No
+abbrev pub up_to : ℕ → ℕ → Option ℕ
+up_to v limit = pick (leb v limit) (Some v) None
 
 -- 01, Numerals: hexadecimal follows Rust's u32 (`+` allowed); here the text from a to b
-unfoldable pub hex_at : List ℕ → ℕ → ℕ → Numeral
+unfoldable pub hex_at : List ℕ → ℕ → ℕ → Option ℕ
 hex_at s a b = up_to (whole_number 16 s (past is_plus s a b) b) 4294967295
 
 -- where the digits of a numeral stand: optional sign, digits with at most one point

@@ -1,5 +1,5 @@
 -- Worked examples, by computation: a text and what it says.
-use Rattle.std.specs.Prelude.{◌≡◌, refl, List, [], ◌∷◌, map, ℕ, length}
+use Rattle.std.specs.Prelude.{◌≡◌, refl, Some, None, List, [], ◌∷◌, map, ℕ, length}
 use Prim.Native.String.{String}
 use Rattle.std.specs.Float.Ieee.{round, to_bits}
 use Rattle.scan.specs.Scan.{bytes, span, skip, skip_back, blank_at, blank_before}
@@ -109,16 +109,16 @@ unfolding span skip skip_back blank_at blank_before value whole_number i32_of
 integers = refl
 
 pub hexadecimals : Reads hex_at (
-    ("+ff", Word 255) ∷
-    ("FfFfFfFf", Word 0xFFFFFFFF) ∷
-    ("0000000000000000001a", Word 26) ∷
-    ("100000000", No) ∷
-    ("-1", No) ∷
-    ("0x1", No) ∷
-    (" 1", No) ∷
-    ("", No) ∷
-    ("+", No) ∷
-    ("g", No) ∷
+    ("+ff", Some 255) ∷
+    ("FfFfFfFf", Some 0xFFFFFFFF) ∷
+    ("0000000000000000001a", Some 26) ∷
+    ("100000000", None) ∷
+    ("-1", None) ∷
+    ("0x1", None) ∷
+    (" 1", None) ∷
+    ("", None) ∷
+    ("+", None) ∷
+    ("g", None) ∷
     [])
 unfolding span value whole_number hex_at
 hexadecimals = refl

@@ -14,6 +14,7 @@ use Rattle.numeral.proofs.Exponent.{counted-some, counted_zeros_is, counted_zero
 use Rattle.numeral.proofs.SpelledOut.{says}
 use Rattle.numeral.proofs.shifted.Goals as goal
 use Rattle.numeral.proofs.shifted.Lts.{After-shift_of}
+use Rattle.numeral.proofs.shifted.Goals.{then-before-gt9-via-then-before-gt9, then-before-gt9-via-else-before-gt9+then-behind-gt9}
 use Rattle.numeral.proofs.shifted.Tie.{the-claims}
 use Rattle.numeral.proofs.shifted.Reads.{Pre, Post}
 
@@ -41,11 +42,11 @@ module _ (c : After-shift_of the-claims Pre Post) where
       (e ∙ ap word_of_f32 (exponent-few _ _ _ _ _ _ _ q.2 _ _ c.past-x.ensures.is c.past-e.ensures.is _ _ c.past.ensures.is c.value-n.ensures (omega arith)))
 
   -- the digits on both sides
-  before-is : c.shift_of-shift.result.before ≡ before (d.whole - d.from) x
-  before-is = c.shift_of-shift.ensures.0 ∙ ap (λ (n : ℕ). before n x) c.requires.2.whole
+  before-is : c.shift_of-before.result.0 ≡ before (d.whole - d.from) x
+  before-is = c.shift_of-before.ensures.0 ∙ ap (λ (n : ℕ). before n x) c.requires.2.whole
 
-  behind-is : c.shift_of-shift.result.behind ≡ behind (d.end - d.fraction) x
-  behind-is = c.shift_of-shift.ensures.1 ∙ ap (λ (n : ℕ). behind n x) c.requires.2.fraction
+  behind-is : c.shift_of-before.result.1 ≡ behind (d.end - d.fraction) x
+  behind-is = c.shift_of-before.ensures.1 ∙ ap (λ (n : ℕ). behind n x) c.requires.2.fraction
 
 pub past-x-requires : goal.past-x-requires
 past-x-requires c = (c.requires.2.high, search rules)
@@ -60,8 +61,8 @@ returns-then-b-e-gt2 c =
 pub value-n-requires : goal.value-n-requires
 value-n-requires c = (c.past-e.ensures.high, search rules, search rules, search rules, search rules)
 
-pub shift_of-shift-requires : goal.shift_of-shift-requires
-shift_of-shift-requires c =
+pub shift_of-before-requires : goal.shift_of-before-requires
+shift_of-before-requires c =
     let p = c.requires.2 in
     let n = exponent_small _ _ _ _ _ _ _ p _ _ c.past-x.ensures.is c.past-e.ensures.is _ _ c.past.ensures.is c.value-n.ensures (omega arith) in
     let w = p.whole-high in
@@ -69,34 +70,35 @@ shift_of-shift-requires c =
     (search rules, search rules, omega arith)
 
 pub returns-then-before-gt9 : goal.returns-then-before-gt9
-returns-then-before-gt9 c = let p = c.before.before in said p (ap word_of_f32 (limit_before _ _ (x p) _ (rw (before-is p) at c.if-before-gt9.true)))
-
-pub returns-then-behind-gt9 : goal.returns-then-behind-gt9
-returns-then-behind-gt9 c =
-    let p = c.before.before.before in
-    let k : p.shift_of-shift.result.before ≤ 9 = omega arith in
-    said p (ap word_of_f32 (limit_behind _ _ (x p) _ (rw (before-is p) at k) (rw (behind-is p) at c.if-behind-gt9.true)))
+returns-then-before-gt9 c =
+    let p = c.before.before in
+    elim c.then-before-gt9.branch [
+      | then-before-gt9-via-then-before-gt9 w ↦ said p (ap word_of_f32 (limit_before _ _ (x p) _ (rw (before-is p) at w.if-before-gt9.true)))
+      | then-before-gt9-via-else-before-gt9+then-behind-gt9 w ↦
+          let k : p.shift_of-before.result.0 ≤ 9 = omega arith in
+          said p (ap word_of_f32 (limit_behind _ _ (x p) _ (rw (before-is p) at k) (rw (behind-is p) at w.if-behind-gt9.true)))
+    ]
 
 pub all_digits-all-requires : goal.all_digits-all-requires
 all_digits-all-requires c =
     let p = c.before.before.before in
     let q = p.requires in
-    (q.0, q.1, counted-digits _ _ _ _ _ _ _ q.2 (x p) (rw p.shift_of-shift.ensures.0 at c.if-before-gt9.false) (rw p.shift_of-shift.ensures.1 at c.if-behind-gt9.false), q.2.few)
+    (q.0, q.1, counted-digits _ _ _ _ _ _ _ q.2 (x p) (rw p.shift_of-before.ensures.0 at c.if-before-gt9.false) (rw p.shift_of-before.ensures.1 at c.if-behind-gt9.false), q.2.few)
 
 pub shifted_word-requires : goal.shifted_word-requires
 shifted_word-requires c =
     let p = c.before.before.before.before in
     let q = p.requires in
-    let k = rw p.shift_of-shift.ensures.0 at c.if-before-gt9.false in
-    let l = rw p.shift_of-shift.ensures.1 at c.if-behind-gt9.false in
-    let z = sym p.shift_of-shift.ensures.2 in
+    let k = rw p.shift_of-before.ensures.0 at c.if-before-gt9.false in
+    let l = rw p.shift_of-before.ensures.1 at c.if-behind-gt9.false in
+    let z = sym p.shift_of-before.ensures.2 in
     (q.0, q.1, rw c.all_digits-all.ensures (subst (λ (n : ℕ). digits_of (s p) (d p) * 10 ^ n < most) z (counted-small _ _ _ _ _ _ _ q.2 (x p) k l)), subst (λ (n : ℕ). n ≤ 9) z (counted_zeros _ _ _ _ _ _ _ q.2 (x p) k), c.if-behind-gt9.false)
 
 pub returns : goal.returns
 returns c =
     let p = c.before.before.before.before.before in
-    let h : p.shift_of-shift.result.before ≤ 9 = omega arith in
+    let h : p.shift_of-before.result.0 ≤ 9 = omega arith in
     let k = rw (before-is p) at h in
     let l = rw (behind-is p) at c.if-behind-gt9.false in
-    let z = p.shift_of-shift.ensures.2 ∙ counted_zeros_is _ _ _ _ _ _ _ p.requires.2 (x p) in
+    let z = p.shift_of-before.ensures.2 ∙ counted_zeros_is _ _ _ _ _ _ _ p.requires.2 (x p) in
     said p (shifted_is (s p) (a p) (b p) (d p) (x p) _ _ _ _ c.all_digits-all.ensures z (behind-is p) c.shifted_word.ensures ∙ ap word_of_f32 (limit_number _ _ (x p) _ k l))
