@@ -1,7 +1,7 @@
 -- Commands written one behind the other.
-use mathlib.Core.Path.{◌≡◌, refl, sym, ◌∙◌}
+use mathlib.Core.Path.{◌≡◌, refl, sym, ap, ◌∙◌}
 use mathlib.Core.List.{List, [], ◌∷◌, ◌++◌}
-use Prim.Native.Nat.{ℕ, ◌+◌, ◌*◌, ◌≤◌, ◌<◌, min}
+use Prim.Native.Nat.{ℕ, ◌+◌, ◌-◌, ◌*◌, min}
 use native.Mathlib.Omega.{arith}
 use lib.ListN.{length, take, drop, length-append, length-drop, take-append-drop}
 use lib.Seq.{length-take-le}
@@ -9,6 +9,7 @@ use Rattle.path.specs.declared.PathCommand.{PathCommand}
 use Rattle.path.specs.declared.PathCommand.TheVariants.{MoveTo, LineTo, CubicTo, Close}
 use Rattle.rows.specs.Rows.{laid_rows}
 use Rattle.rows.proofs.Laws as rows
+use Rattle.rows.proofs.Laws.{rest-is, rest_back}
 use Rattle.path.specs.Path.{command_width, command_words, laid_path}
 use Rattle.path.specs.Inner.{Emits}
 
@@ -25,19 +26,15 @@ pub emits_none : (t : List ℕ) (n : ℕ) → Emits t n [] n t
 unfolding laid_rows
 emits_none t n = record { count = omega arith; path = sym (take-append-drop (min (command_width * n) (length t)) t) }
 
--- a command is written where there is room for it
-pub emits_room : (t u : List ℕ) (n k : ℕ) (c : PathCommand) → command_width * n + command_width ≤ length t → k ≡ command_width → u ≡ command_words c
-    → Emits t n (c ∷ []) (n + 1) (take (command_width * n) t ++ (u ++ drop k (drop (command_width * n) t)))
-emits_room t u n k c h e q =
-    let z : min (command_width * n) (length t) ≡ command_width * n = omega arith in
-    let l : command_width ≤ length (drop (command_width * n) t) = omega (arith, length-drop (command_width * n) t) in
-    record { count = omega arith; path = rw (z, e, q, rows.laid_more command_width command_words (drop (command_width * n) t) c [] l, rows.laid_nil command_width command_words (drop command_width (drop (command_width * n) t))) }
-
-pub emits_full : (t : List ℕ) (n : ℕ) (c : PathCommand) → length t < command_width * n + command_width → Emits t n (c ∷ []) (n + 1) t
-emits_full t n c h =
-    let k = min (command_width * n) (length t) in
-    let l : length (drop k t) < command_width = omega (arith, length-drop k t) in
-    record { count = omega arith; path = rw (rows.laid-short command_width command_words (drop k t) (c ∷ []) l) (sym (take-append-drop k t)) }
+-- what is written into the part from k on, which is lent and holds u then
+pub emits_one : (t u w : List ℕ) (n k : ℕ) (c : PathCommand) → k ≡ min (command_width * n) (length t) → w ≡ command_words c → u ≡ laid_rows command_width (λ r. r) (take (length t - k) (drop k t)) (w ∷ [])
+    → Emits t n (c ∷ []) (n + 1) (take k t ++ (u ++ drop (length t - k) (drop k t)))
+unfolding laid_rows
+emits_one t u w n k c e f q =
+    record {
+      count = omega arith;
+      path = rw (← e) (rest_back k t u (omega arith) ∙ ap (λ (l : List ℕ). take k t ++ l) (q ∙ ap (λ (l : List ℕ). laid_rows command_width (λ r. r) l (w ∷ [])) (rest-is k t) ∙ rw f));
+    }
 
 pub emits-length : {t u : List ℕ} {n m : ℕ} {cs : List PathCommand} → Emits t n cs m u → length u ≡ length t
 emits-length {t} {u} {n} {m} {cs} e =

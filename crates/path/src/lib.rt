@@ -79,10 +79,8 @@ impl<'a> PathWriter<'a> {
         requires { self.old.count < 65536 }
         ensures { Writes self.old (command ∷ []) self.new }
     {
-        let start = 8 * self.count;
-        if start + 8 <= self.words.len() {
-            self.words[start..start + 8].copy_from_slice(&command.words());
-        }
+        let start = self.words.len().min(8 * self.count);
+        rows::put(&mut self.words[start..], command.words());
         self.count += 1;
     }
 }
