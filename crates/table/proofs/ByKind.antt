@@ -1,16 +1,14 @@
 -- The range of a record by its kind: each arm of `in_range` is for kinds that have one row, and the arms are for all of them.
 use mathlib.Core.Path.{◌≡◌, refl, sym, ap, ◌∙◌}
 use mathlib.Core.List.{List, [], ◌∷◌, map}
-use mathlib.Core.Bool.{Bool, true, false, true≢false}
-use mathlib.Core.Logic.{inl, inr, ⊎_elim}
-use Prim.Native.Nat.{ℕ, zero, suc, ◌+◌, ◌-◌, ◌≤◌, ◌<◌}
-use native.Mathlib.Omega.{arith}
-use lib.Dec.{leb, eqb}
+use mathlib.Core.Bool.{Bool, true, false}
+use mathlib.Core.Logic.{inl, inr}
+use Prim.Native.Nat.{ℕ, ◌-◌, ◌≤◌}
+use lib.Dec.{leb}
 use lib.ListN.{length, get_or, replicate}
 use types.Run.{OneOf}
-use borrow.Author.Tests.{leb-true, eqb-true}
+use borrow.Author.Tests.{leb-true}
 use Rattle.scan.specs.Scan.{pick, within, both}
-use Rattle.scan.proofs.Laws.{le_or_lt}
 use Rattle.tag.specs.declared.Record.{Record}
 use Rattle.tag.specs.Range.{WordClass, Row, rows, no_row, row_fits, in_range}
 use Rattle.table.specs.Inner.{words_fit}
@@ -69,49 +67,6 @@ module _ (a b c d e f g : WordClass) (ks : List ℕ) where
   of-joined j s r h =
       let z = one-row (row_with a b c d e f g j) ks s r.kind h in
       sym (of_row r ∙ ap (λ (x : Row). fits x r) z)
-
--- ---- what the tests on single kinds leave
-
-abbrev pub Rest : ℕ → List (List ℕ) → Type 0
-Rest x [] = Unit {0}
-Rest x (ks ∷ kss) = Rest x kss × (OneOf ks x → ⊥)
-
-abbrev is_in : ℕ → List ℕ → Bool
-is_in x [] = false
-is_in x (k ∷ ks) = pick (eqb x k) true (is_in x ks)
-
-abbrev is_in_any : ℕ → List (List ℕ) → Bool
-is_in_any x [] = false
-is_in_any x (ks ∷ kss) = pick (is_in x ks) true (is_in_any x kss)
-
--- n kinds from i on are there
-abbrev pub covered : ℕ → ℕ → List (List ℕ) → Bool
-covered zero i kss = true
-covered (suc n) i kss = both (is_in_any i kss) (covered n (suc i) kss)
-
-by : {A : Type 0} (b : Bool) → (b ≡ true → A) → (b ≡ false → A) → A
-by true f g = f refl
-by false f g = g refl
-
-in_any : (x : ℕ) (ks : List ℕ) → is_in x ks ≡ true → OneOf ks x
-in_any x [] e = absurd (true≢false (sym e))
-in_any x (k ∷ []) e = by (eqb x k) (λ h. eqb-true x k h) (λ h. absurd (true≢false (sym (rw h at e))))
-in_any x (k ∷ l ∷ ks) e = by (eqb x k) (λ h. inl (eqb-true x k h)) (λ h. inr (in_any x (l ∷ ks) (rw h at e)))
-
-rest_out : (x : ℕ) (kss : List (List ℕ)) → Rest x kss → is_in_any x kss ≡ true → ⊥
-rest_out x [] n e = true≢false (sym e)
-rest_out x (ks ∷ kss) n e = by (is_in x ks) (λ h. n.1 (in_any x ks h)) (λ h. rest_out x kss n.0 (rw h at e))
-
-cover : (n i : ℕ) (kss : List (List ℕ)) → covered n i kss ≡ true → (x : ℕ) → i ≤ x → x < i + n → is_in_any x kss ≡ true
-cover zero i kss e x l h = absurd (omega arith)
-cover (suc n) i kss e x l h =
-    by (is_in_any i kss)
-    (λ j. ⊎_elim (λ k. let z : x ≡ i = omega arith in rw z j) (λ k. cover n (suc i) kss (rw j at e) x k (omega arith)) (le_or_lt x i))
-    (λ j. absurd (true≢false (sym (rw j at e))))
-
--- a kind that is none of theirs lies past them
-pub none_left : (n i : ℕ) (kss : List (List ℕ)) → covered n i kss ≡ true → {x : ℕ} → Rest x kss → i ≤ x → i + n ≤ x
-none_left n i kss e {x} r l = ⊎_elim (λ h. h) (λ h. absurd (rest_out x kss r (cover n i kss e x l h))) (le_or_lt (i + n) x)
 
 -- a record whose kind is no kind is in no range
 pub of_none : (r : Record) → (1 ≤ r.kind → r.kind ≤ 49 → ⊥) → false ≡ in_range r

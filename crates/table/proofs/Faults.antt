@@ -9,8 +9,8 @@ use lib.Dec.{leb, ltb, eqb}
 use lib.ListN.{length, take, drop, length-take, length-drop}
 use borrow.Author.Tests.{leb-true, ltb-true, eq-eqb, ne_eqb, lt-ltb, le-leb}
 use Rattle.scan.specs.Scan.{pick, both}
-use Rattle.refusal.specs.declared.Checked.{Checked}
-use Rattle.refusal.specs.declared.Checked.TheVariants.{Good, Bad}
+use Rattle.refusal.specs.Refusal.{Checked}
+use Rattle.std.specs.Prelude.{Ok, Err}
 use Rattle.refusal.specs.declared.Refusal.{Refusal}
 use Rattle.refusal.specs.declared.Refusal.TheVariants.{TableMalformed}
 use Rattle.tag.specs.declared.Record.{Record}
@@ -69,18 +69,18 @@ out left d r e = rw e (go (eqb r.kind t_kind))
 
 -- ---- one record and those behind it
 
-fault_bad : (d i : ℕ) (r : Record) (l : List Record) → stands (length l) d r ≡ false → fault d i (r ∷ l) ≡ Bad (TableMalformed i)
+fault_bad : (d i : ℕ) (r : Record) (l : List Record) → stands (length l) d r ≡ false → fault d i (r ∷ l) ≡ Err (TableMalformed i)
 unfolding fault_in
 fault_bad zero i r l e = go (in_range r) (eqb r.kind t_kind) e
   where
-    go : (a b : Bool) → pick b (both a (both (ltb 0 zero) (leb (holds r) (length l)))) a ≡ false → pick a (pick b (Bad (TableMalformed i)) (fault_in (length l) zero (i + 1) l)) (Bad (TableMalformed i)) ≡ Bad (TableMalformed i)
+    go : (a b : Bool) → pick b (both a (both (ltb 0 zero) (leb (holds r) (length l)))) a ≡ false → pick a (pick b (Err (TableMalformed i)) (fault_in (length l) zero (i + 1) l)) (Err (TableMalformed i)) ≡ Err (TableMalformed i)
     go true true e = refl
     go true false e = absurd (true≢false e)
     go false b e = refl
 fault_bad (suc d) i r l e = go (in_range r) (eqb r.kind t_kind) (leb (holds r) (length l)) (rw (lt-ltb 0 (suc d) (omega arith)) at e)
   where
     go : (a b c : Bool) → pick b (both a (pick true c false)) a ≡ false
-        → pick a (pick b (pick c (first_ground (fault_in (length l) d (i + 1) (take (holds r) l)) (fault_in (length l) (suc d) (i + 1 + holds r) (drop (holds r) l))) (Bad (TableMalformed i))) (fault_in (length l) (suc d) (i + 1) l)) (Bad (TableMalformed i)) ≡ Bad (TableMalformed i)
+        → pick a (pick b (pick c (first_ground (fault_in (length l) d (i + 1) (take (holds r) l)) (fault_in (length l) (suc d) (i + 1 + holds r) (drop (holds r) l))) (Err (TableMalformed i))) (fault_in (length l) (suc d) (i + 1) l)) (Err (TableMalformed i)) ≡ Err (TableMalformed i)
     go true true true e = absurd (true≢false e)
     go true true false e = refl
     go true false c e = absurd (true≢false e)
@@ -110,7 +110,7 @@ fault-t (suc d) i r l e h p q =
 
 -- ---- the same in a table
 
-pub none_left : (t : List ℕ) (d at left : ℕ) → left ≡ 0 → fault d at (part t at left) ≡ Good
+pub none_left : (t : List ℕ) (d at left : ℕ) → left ≡ 0 → fault d at (part t at left) ≡ Ok tt
 unfolding fault_in
 none_left t d at left e = rw e
 
@@ -127,7 +127,7 @@ module _ (t : List ℕ) (d at left : ℕ) (h : Inside t at left) (g : 0 < left) 
   size : length behind ≡ left - 1
   size = let p = inside-places t at left h in length_part t (at + 1) (left - 1) (omega arith)
 
-  pub step_bad : stands (left - 1) d r ≡ false → fault d at (part t at left) ≡ Bad (TableMalformed at)
+  pub step_bad : stands (left - 1) d r ≡ false → fault d at (part t at left) ≡ Err (TableMalformed at)
   step_bad e = ap (fault d at) here ∙ fault_bad d at r behind (rw size e)
 
   pub step_plain : stands (left - 1) d r ≡ true → (r.kind ≡ t_kind → ⊥) → fault d at (part t at left) ≡ fault d (at + 1) behind
@@ -145,7 +145,7 @@ module _ (t : List ℕ) (d at left : ℕ) (h : Inside t at left) (g : 0 < left) 
     own : v ≡ in_range r
     own = s ∙ ap (λ (j : ℕ). in_range (of_kind j x)) (sym q) ∙ ap in_range e
 
-    pub kind_bad : v ≡ false → Bad (TableMalformed at) ≡ fault d at (part t at left)
+    pub kind_bad : v ≡ false → Err (TableMalformed at) ≡ fault d at (part t at left)
     kind_bad z = sym (step_bad (out (left - 1) d r (sym own ∙ z)))
 
     pub kind-plain : v ≡ true → eqb k t_kind ≡ false → fault d (at + 1) behind ≡ fault d at (part t at left)
@@ -153,7 +153,7 @@ module _ (t : List ℕ) (d at left : ℕ) (h : Inside t at left) (g : 0 < left) 
 
   -- a turn of the loop, by what the code has found
   module _ (x : Record) (e : x ≡ r) (v : Bool) (s : v ≡ stands (left - 1) d x) where
-    pub turn_bad : v ≡ false → Bad (TableMalformed at) ≡ fault d at (part t at left)
+    pub turn_bad : v ≡ false → Err (TableMalformed at) ≡ fault d at (part t at left)
     turn_bad z = sym (step_bad (sym (ap (stands (left - 1) d) e) ∙ sym s ∙ z))
 
     pub turn_plain : v ≡ true → (x.kind ≡ t_kind → ⊥) → fault d (at + 1) (part t (at + 1) (left - 1)) ≡ fault d at (part t at left)
@@ -166,10 +166,10 @@ module _ (t : List ℕ) (d at left : ℕ) (h : Inside t at left) (g : 0 < left) 
       turn_t : fault d at (part t at left) ≡ first_ground (fault (d - 1) (at + 1) (part t (at + 1) (holds x))) (fault d (at + 1 + holds x) (part t (at + 1 + holds x) (left - 1 - holds x)))
       turn_t = step_t (sym (ap (stands (left - 1) d) e) ∙ sym s ∙ z) (sym (ap (λ (y : Record). y.kind) e) ∙ k) ∙ rw e refl
 
-      pub turn_in : (c : Checked) → c ≡ fault (d - 1) (at + 1) (part t (at + 1) (holds x)) → (b : Refusal) → c ≡ Bad b → Bad b ≡ fault d at (part t at left)
+      pub turn_in : (c : Checked) → c ≡ fault (d - 1) (at + 1) (part t (at + 1) (holds x)) → (b : Refusal) → c ≡ Err b → Err b ≡ fault d at (part t at left)
       turn_in c f b g = sym (turn_t ∙ ap (λ (y : Checked). first_ground y (fault d (at + 1 + holds x) (part t (at + 1 + holds x) (left - 1 - holds x)))) (sym f ∙ g))
 
-      pub turn_past : (c : Checked) → c ≡ fault (d - 1) (at + 1) (part t (at + 1) (holds x)) → c ≡ Good → fault d (at + 1 + holds x) (part t (at + 1 + holds x) (left - 1 - holds x)) ≡ fault d at (part t at left)
+      pub turn_past : (c : Checked) → c ≡ fault (d - 1) (at + 1) (part t (at + 1) (holds x)) → c ≡ Ok tt → fault d (at + 1 + holds x) (part t (at + 1 + holds x) (left - 1 - holds x)) ≡ fault d at (part t at left)
       turn_past c f g = sym (turn_t ∙ ap (λ (y : Checked). first_ground y (fault d (at + 1 + holds x) (part t (at + 1 + holds x) (left - 1 - holds x)))) (sym f ∙ g))
 
 -- ---- a T
@@ -182,7 +182,7 @@ t_as_stands left d x k s = s ∙ ap (λ (j : ℕ). both (in_range (of_kind j x))
 
 -- what the code has found of one
 module _ (t : List ℕ) (at n : ℕ) (x : Record) {u v : Bool} (p : u ≡ in_range (of_kind t_kind x)) (q : v ≡ both u (leb (holds x) n)) where
-  pub t_missed : v ≡ false → Bad (TableMalformed at) ≡ fault_of_t t at n x
+  pub t_missed : v ≡ false → Err (TableMalformed at) ≡ fault_of_t t at n x
   unfolding fault_of_t
   t_missed z = rw (sym p, sym q, z)
 
@@ -195,22 +195,22 @@ module _ (t : List ℕ) (at n : ℕ) (x : Record) {u v : Bool} (p : u ≡ in_ran
 
 module _ (t : List ℕ) (at left : ℕ) (h : Inside t at left) (g : 0 < left) (x : Record) (e : x ≡ record_in t at) (k : x.kind ≡ t_kind) (c : Checked) (f : c ≡ fault_of_t t at (left - 1) x) where
   abbrev found : Bool → Checked
-  found v = pick v (fault (most_depth - 1) (at + 1) (part t (at + 1) (holds x))) (Bad (TableMalformed at))
+  found v = pick v (fault (most_depth - 1) (at + 1) (part t (at + 1) (holds x))) (Err (TableMalformed at))
 
   by_stands : (v : Bool) → v ≡ stands (left - 1) most_depth x → c ≡ found v
   unfolding fault_of_t
   by_stands v s = f ∙ rw (s, eq-eqb x.kind t_kind k) (ap (λ (j : ℕ). found (both (in_range (of_kind j x)) (leb (holds x) (left - 1)))) (sym k))
 
-  bad_by : (v : Bool) → v ≡ stands (left - 1) most_depth x → (b : Refusal) → c ≡ Bad b → Bad b ≡ fault most_depth at (part t at left)
+  bad_by : (v : Bool) → v ≡ stands (left - 1) most_depth x → (b : Refusal) → c ≡ Err b → Err b ≡ fault most_depth at (part t at left)
   bad_by false s b y = sym y ∙ by_stands false s ∙ turn_bad t most_depth at left h g x e false s refl
   bad_by true s b y = turn_in t most_depth at left h g x e true s refl k c (by_stands true s) b y
 
-  good_by : (v : Bool) → v ≡ stands (left - 1) most_depth x → c ≡ Good → (holds x ≤ left - 1) × (fault most_depth (at + 1 + holds x) (part t (at + 1 + holds x) (left - 1 - holds x)) ≡ fault most_depth at (part t at left))
+  good_by : (v : Bool) → v ≡ stands (left - 1) most_depth x → c ≡ Ok tt → (holds x ≤ left - 1) × (fault most_depth (at + 1 + holds x) (part t (at + 1 + holds x) (left - 1 - holds x)) ≡ fault most_depth at (part t at left))
   good_by false s y = absurd (bad_good (sym (by_stands false s) ∙ y))
   good_by true s y = ((turn_room t most_depth at left h g x e true s refl k).1, turn_past t most_depth at left h g x e true s refl k c (by_stands true s) y)
 
-  pub top_bad : (b : Refusal) → c ≡ Bad b → Bad b ≡ fault most_depth at (part t at left)
+  pub top_bad : (b : Refusal) → c ≡ Err b → Err b ≡ fault most_depth at (part t at left)
   top_bad b y = bad_by _ refl b y
 
-  pub top_past : c ≡ Good → (holds x ≤ left - 1) × (fault most_depth (at + 1 + holds x) (part t (at + 1 + holds x) (left - 1 - holds x)) ≡ fault most_depth at (part t at left))
+  pub top_past : c ≡ Ok tt → (holds x ≤ left - 1) × (fault most_depth (at + 1 + holds x) (part t (at + 1 + holds x) (left - 1 - holds x)) ≡ fault most_depth at (part t at left))
   top_past y = good_by _ refl y

@@ -12,9 +12,8 @@ use borrow.Author.Tests.{leb-true}
 use Rattle.scan.specs.Scan.{pick, both}
 use Rattle.scan.proofs.Laws.{le_or_lt}
 use Rattle.float.specs.Float.{reach}
-use Rattle.refusal.specs.Refusal.{most_places}
-use Rattle.refusal.specs.declared.Checked.{Checked}
-use Rattle.refusal.specs.declared.Checked.TheVariants.{Good, Bad}
+use Rattle.refusal.specs.Refusal.{Checked, most_places}
+use Rattle.std.specs.Prelude.{Ok, Err}
 use Rattle.refusal.specs.declared.Refusal.TheVariants.{TableMalformed, TimeOutOfRange}
 use Rattle.tag.specs.Tag.{most_depth}
 use Rattle.tag.specs.Table.{places_of}
@@ -27,7 +26,7 @@ use Rattle.table.proofs.Slices.{length-records}
 
 -- ---- ground 5 in the code's words
 
-pub excess-places : (t : List ℕ) → excess t ≡ pick (leb (places_of t) most_places) (pick (broken t) (Bad (TableMalformed (places_of t))) Good) (Bad (TableMalformed most_places))
+pub excess-places : (t : List ℕ) → excess t ≡ pick (leb (places_of t) most_places) (pick (broken t) (Err (TableMalformed (places_of t))) (Ok tt)) (Err (TableMalformed most_places))
 unfolding excess
 excess-places t = rw (length-records t)
 
@@ -47,7 +46,7 @@ table_found t n c h e = rw (e, h, part-front t)
 
 -- ---- ground 6
 
-pub times_found : (t dur : ℤ) (a b v : Bool) → a ≡ in_time t → b ≡ in_time dur → v ≡ both a b → pick v Good (Bad TimeOutOfRange) ≡ time_ground t dur
+pub times_found : (t dur : ℤ) (a b v : Bool) → a ≡ in_time t → b ≡ in_time dur → v ≡ both a b → pick v (Ok tt) (Err TimeOutOfRange) ≡ time_ground t dur
 unfolding time_ground
 times_found t dur a b v h g e = rw (e, h, g)
 
@@ -62,18 +61,18 @@ in_time-size (negsuc n) e = let h = leb-true n 999999999 (as_is (leb n 999999999
 
 -- ---- a call
 
-times-good : (a b : Bool) → pick (both a b) Good (Bad TimeOutOfRange) ≡ Good → (a ≡ true) × (b ≡ true)
+times-good : (a b : Bool) → pick {A = Checked} (both a b) (Ok tt) (Err TimeOutOfRange) ≡ Ok tt → (a ≡ true) × (b ≡ true)
 times-good true true e = (refl, refl)
 times-good true false e = absurd (bad_good e)
 times-good false b e = absurd (bad_good e)
 
-pub good-fine : (ws : List ℕ) (t dur : ℤ) → call_ground ws t dur ≡ Good → Fine ws t dur
+pub good-fine : (ws : List ℕ) (t dur : ℤ) → call_ground ws t dur ≡ Ok tt → Fine ws t dur
 unfolding call_ground_to time_ground
 good-fine ws t dur e =
     let f = first_good (table_ground ws) (time_ground t dur) e in
     let g = times-good (in_time t) (in_time dur) f.1 in
     record { formed = ground-formed ws f.0; instant = g.0; duration = g.1 }
 
-pub fine-good : (ws : List ℕ) (t dur : ℤ) → Fine ws t dur → call_ground ws t dur ≡ Good
+pub fine-good : (ws : List ℕ) (t dur : ℤ) → Fine ws t dur → call_ground ws t dur ≡ Ok tt
 unfolding call_ground_to time_ground
 fine-good ws t dur f = rw (formed-ground ws f.formed, f.instant, f.duration)

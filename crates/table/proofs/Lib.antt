@@ -1,6 +1,5 @@
 pub mod FloatWords
 pub mod ByKind
 pub mod Slices
-pub mod Times
 pub mod Faults
 pub mod Grounds

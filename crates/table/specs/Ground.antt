@@ -1,10 +1,9 @@
 -- 01, Grounds for turning a call down: 6, and 5 before it.
-use Rattle.std.specs.Prelude.{◌≡◌, List, Bool, true, ℕ, ℤ, pos, neg_ℤ}
+use Rattle.std.specs.Prelude.{◌≡◌, List, Bool, true, ℕ, ℤ, pos, neg_ℤ, Ok, Err}
 use Rattle.std.specs.Int.Signed.{le_z}
 use Rattle.scan.specs.Scan.{pick, both}
 use Rattle.float.specs.Float.{reach}
-use Rattle.refusal.specs.declared.Checked.{Checked}
-use Rattle.refusal.specs.declared.Checked.TheVariants.{Good, Bad}
+use Rattle.refusal.specs.Refusal.{Checked}
 use Rattle.refusal.specs.declared.Refusal.TheVariants.{TimeOutOfRange}
 use Rattle.refusal.specs.Answer.{first_ground}
 use Rattle.tag.specs.Tag.{most_depth}
@@ -16,7 +15,7 @@ in_time z = both (le_z (neg_ℤ (pos reach)) z) (le_z z (pos reach))
 
 -- ground 6 of an instant and a duration
 unfoldable pub time_ground : ℤ → ℤ → Checked
-time_ground t dur = pick (both (in_time t) (in_time dur)) Good (Bad TimeOutOfRange)
+time_ground t dur = pick (both (in_time t) (in_time dur)) (Ok tt) (Err TimeOutOfRange)
 
 -- "In range means within ±1,000,000,000"
 abbrev pub InTime : ℤ → Type 0

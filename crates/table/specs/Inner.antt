@@ -1,8 +1,7 @@
 -- What the inner functions say, in the code's words: nothing here is a promise to a caller.
-use Rattle.std.specs.Prelude.{List, Bool, true, ℕ, ◌+◌, ◌-◌, ◌*◌, ◌≤◌, leb, ltb, eqb, length, get_or, take, drop}
+use Rattle.std.specs.Prelude.{List, Bool, true, ℕ, ◌+◌, ◌-◌, ◌*◌, ◌≤◌, leb, ltb, eqb, length, get_or, take, drop, Err}
 use Rattle.scan.specs.Scan.{pick, both, within}
-use Rattle.refusal.specs.declared.Checked.{Checked}
-use Rattle.refusal.specs.declared.Checked.TheVariants.{Bad}
+use Rattle.refusal.specs.Refusal.{Checked}
 use Rattle.refusal.specs.declared.Refusal.TheVariants.{TableMalformed}
 use Rattle.tag.specs.declared.Record.{Record}
 use Rattle.tag.specs.Tag.{most_depth}
@@ -58,4 +57,4 @@ t_stands left d r = both (in_range (of_kind t_kind r)) (both (ltb 0 d) (leb (hol
 
 -- the T r with the index at that is in no other, with n records behind it: itself at fault, or the first at fault inside it
 unfoldable pub fault_of_t : List ℕ → ℕ → ℕ → Record → Checked
-fault_of_t t at n r = pick (both (in_range (of_kind t_kind r)) (leb (holds r) n)) (fault (most_depth - 1) (at + 1) (part t (at + 1) (holds r))) (Bad (TableMalformed at))
+fault_of_t t at n r = pick (both (in_range (of_kind t_kind r)) (leb (holds r) n)) (fault (most_depth - 1) (at + 1) (part t (at + 1) (holds r))) (Err (TableMalformed at))

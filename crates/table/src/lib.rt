@@ -9,7 +9,7 @@ ghost use Rattle.tag.specs.WellFormed.{fault as fault_of, excess as excess_of, t
 ghost use Rattle.table.specs.Inner.{record_in, part, Inside, words_fit, one_fits, two_fit, flag_times, font_parts, style_part, stands as stands_of, t_stands, fault_of_t};
 ghost use Rattle.table.specs.Ground.{in_time, time_ground, call_ground};
 
-use refusal::{Checked, Refusal};
+use refusal::Refusal;
 use tag::Record;
 
 // The record with the index `at`.
@@ -32,16 +32,16 @@ pub fn record_at(table: &[u32], at: usize) -> Record
 
 // ---- one word
 
-fn within(low: u32, high: u32, w: u32) -> bool
-    ensures { result ≡ within_of low high w }
+fn is_byte(w: u32) -> bool
+    ensures { result ≡ word_fits (range 0 255) w }
 {
-    scan::both(low <= w, w <= high)
+    w <= 255
 }
 
 fn is_time(w: u32) -> bool
     ensures { result ≡ time_word w }
 {
-    scan::either(w <= 1000000000, within(3294967296, 4294967295, w))
+    w <= 1000000000 || w >= 3294967296
 }
 
 // Whether a word is that of a float in range: without the sign, at most the bits of 1,000,000,000.
@@ -55,11 +55,11 @@ fn is_float(w: u32) -> bool
 fn times_fit(flag: u32, t1: u32, t2: u32) -> bool
     ensures { result ≡ flag_times flag t1 t2 }
 {
-    // For the compiler (MEASURED, Shapes for the compiler): a branch by the flag.
-    if flag == 0 {
-        return scan::both(t1 == 0, t2 == 0);
+    match flag {
+        0 => t1 == 0 && t2 == 0,
+        1 => is_time(t1) && is_time(t2),
+        _ => false,
     }
-    scan::both(flag == 1, scan::both(is_time(t1), is_time(t2)))
 }
 
 // Whether a part of a text ends within 12,288 bytes; an empty one lies at 0.
@@ -67,138 +67,106 @@ fn part_fits(offset: u32, size: u32) -> bool
     ensures { result ≡ part_fits offset size }
 {
     if size == 0 {
-        return offset == 0;
+        offset == 0
+    } else {
+        offset as u64 + size as u64 <= 12288
     }
-    (offset as u64) + (size as u64) <= 12288
 }
 
-// ---- the words of a record, by what its kind asks of them
+// ---- the words of a record, by what its kind asks of them: in a line each, where a trait of ranges would take more
 
 fn unused_from_5(r: Record) -> bool
     ensures { result ≡ both (eqb r.w5 0) (both (eqb r.w6 0) (eqb r.w7 0)) }
 {
-    scan::both(r.w5 == 0, scan::both(r.w6 == 0, r.w7 == 0))
+    r.w5 == 0 && r.w6 == 0 && r.w7 == 0
 }
 
 fn unused_from_3(r: Record) -> bool
     ensures { result ≡ both (eqb r.w3 0) (both (eqb r.w4 0) (both (eqb r.w5 0) (both (eqb r.w6 0) (eqb r.w7 0)))) }
 {
-    scan::both(r.w3 == 0, scan::both(r.w4 == 0, unused_from_5(r)))
+    r.w3 == 0 && r.w4 == 0 && unused_from_5(r)
 }
 
 pub fn float_fits(r: Record) -> bool
     ensures { result ≡ one_fits float r }
 {
-    scan::both(is_float(r.w1), scan::both(r.w2 == 0, unused_from_3(r)))
+    is_float(r.w1) && r.w2 == 0 && unused_from_3(r)
 }
 
 pub fn number_fits(r: Record, low: u32, high: u32) -> bool
     ensures { result ≡ one_fits (range low high) r }
 {
-    scan::both(
-        within(low, high, r.w1),
-        scan::both(r.w2 == 0, unused_from_3(r)),
-    )
+    (low..=high).contains(&r.w1) && r.w2 == 0 && unused_from_3(r)
 }
 
 pub fn pair_fits(r: Record) -> bool
     ensures { result ≡ two_fit float float r }
 {
-    scan::both(is_float(r.w1), scan::both(is_float(r.w2), unused_from_3(r)))
+    is_float(r.w1) && is_float(r.w2) && unused_from_3(r)
 }
 
 pub fn numbers_fit(r: Record, high1: u32, high2: u32) -> bool
     ensures { result ≡ two_fit (range 0 high1) (range 0 high2) r }
 {
-    scan::both(
-        within(0, high1, r.w1),
-        scan::both(within(0, high2, r.w2), unused_from_3(r)),
-    )
+    r.w1 <= high1 && r.w2 <= high2 && unused_from_3(r)
 }
 
 pub fn colour_fits(r: Record) -> bool
     ensures { result ≡ words_fit (range 0 255) (range 0 255) (range 0 255) unused unused unused unused r }
 {
-    scan::both(
-        within(0, 255, r.w1),
-        scan::both(
-            within(0, 255, r.w2),
-            scan::both(
-                within(0, 255, r.w3),
-                scan::both(r.w4 == 0, unused_from_5(r)),
-            ),
-        ),
-    )
+    is_byte(r.w1) && is_byte(r.w2) && is_byte(r.w3) && r.w4 == 0 && unused_from_5(r)
 }
 
 pub fn rect_fits(r: Record) -> bool
     ensures { result ≡ words_fit float float float float unused unused unused r }
 {
-    scan::both(
-        is_float(r.w1),
-        scan::both(
-            is_float(r.w2),
-            scan::both(is_float(r.w3), scan::both(is_float(r.w4), unused_from_5(r))),
-        ),
-    )
+    is_float(r.w1) && is_float(r.w2) && is_float(r.w3) && is_float(r.w4) && unused_from_5(r)
 }
 
 pub fn fade_fits(r: Record) -> bool
     ensures { result ≡ words_fit (range 0 255) (range 0 255) (range 0 255) time time time time r }
 {
-    let times = scan::both(
-        is_time(r.w4),
-        scan::both(is_time(r.w5), scan::both(is_time(r.w6), is_time(r.w7))),
-    );
-    scan::both(
-        within(0, 255, r.w1),
-        scan::both(
-            within(0, 255, r.w2),
-            scan::both(within(0, 255, r.w3), times),
-        ),
-    )
+    is_byte(r.w1)
+        && is_byte(r.w2)
+        && is_byte(r.w3)
+        && is_time(r.w4)
+        && is_time(r.w5)
+        && is_time(r.w6)
+        && is_time(r.w7)
 }
 
 pub fn move_fits(r: Record) -> bool
     ensures { result ≡ both (words_fit float float float float (range 0 1) time time r) (times_fit r.w5 r.w6 r.w7) }
 {
-    // For the compiler (MEASURED, Shapes for the compiler): the places are looked at before the times.
-    let end = scan::both(is_float(r.w3), is_float(r.w4));
-    if !scan::both(is_float(r.w1), scan::both(is_float(r.w2), end)) {
-        return false;
-    }
-    times_fit(r.w5, r.w6, r.w7)
+    is_float(r.w1)
+        && is_float(r.w2)
+        && is_float(r.w3)
+        && is_float(r.w4)
+        && times_fit(r.w5, r.w6, r.w7)
 }
 
 pub fn drawing_fits(r: Record) -> bool
     ensures { result ≡ both (two_fit free free r) (part_fits r.w1 r.w2) }
 {
-    scan::both(unused_from_3(r), part_fits(r.w1, r.w2))
+    unused_from_3(r) && part_fits(r.w1, r.w2)
 }
 
 pub fn font_fits(r: Record) -> bool
     ensures { result ≡ both (words_fit free free free free unused unused unused r) (font_parts r) }
 {
-    scan::both(
-        unused_from_5(r),
-        scan::both(
-            part_fits(r.w1, r.w2),
-            scan::both(part_fits(r.w3, r.w4), 0 < (r.w2 as u64) + (r.w4 as u64)),
-        ),
-    )
+    unused_from_5(r) && part_fits(r.w1, r.w2) && part_fits(r.w3, r.w4) && (r.w2 > 0 || r.w4 > 0)
 }
 
 pub fn weight_fits(r: Record) -> bool
     ensures { result ≡ one_fits weight r }
 {
-    let w = scan::either(r.w1 == 0, within(100, 900, r.w1));
-    scan::both(w, scan::both(r.w2 == 0, unused_from_3(r)))
+    (r.w1 == 0 || (100..=900).contains(&r.w1)) && r.w2 == 0 && unused_from_3(r)
 }
 
 pub fn shift_fits(r: Record) -> bool
     ensures { result ≡ one_fits time r }
 {
-    scan::both(is_time(r.w1), scan::both(r.w2 == 0, unused_from_3(r)))
+    is_time(r.w1) && r.w2 == 0 && unused_from_3(r)
 }
 
 // No name, or one that is not empty.
@@ -206,48 +174,40 @@ fn style_part(flag: u32, offset: u32, size: u32) -> bool
     ensures { result ≡ style_part flag offset size }
 {
     if flag == 0 {
-        return scan::both(offset == 0, size == 0);
+        offset == 0 && size == 0
+    } else {
+        size > 0 && part_fits(offset, size)
     }
-    scan::both(part_fits(offset, size), 0 < size)
 }
 
 pub fn reset_fits(r: Record) -> bool
     ensures { result ≡ both (words_fit (range 0 1) free free unused unused unused unused r) (style_part r.w1 r.w2 r.w3) }
 {
-    scan::both(
-        scan::both(within(0, 1, r.w1), scan::both(r.w4 == 0, unused_from_5(r))),
-        style_part(r.w1, r.w2, r.w3),
-    )
+    r.w1 <= 1 && r.w4 == 0 && unused_from_5(r) && style_part(r.w1, r.w2, r.w3)
 }
 
 fn t_fits(r: Record) -> bool
     ensures { result ≡ both (words_fit (range 0 1) time time float free unused unused r) (times_fit r.w1 r.w2 r.w3) }
 {
-    let end = scan::both(is_float(r.w4), scan::both(r.w6 == 0, r.w7 == 0));
-    scan::both(end, times_fit(r.w1, r.w2, r.w3))
+    is_float(r.w4) && r.w6 == 0 && r.w7 == 0 && times_fit(r.w1, r.w2, r.w3)
 }
 
 // Whether a T is not at fault itself, with `left` records behind it and `deep` more levels of T allowed.
+#[tactic(auto, unfolding(tag::specs::Range::in_range, tag::specs::Range::rows))]
 pub fn t_stands(r: Record, left: usize, deep: usize) -> bool
     ensures { result ≡ t_stands left deep r }
 {
-    let n = r.w5 as usize;
-    scan::both(t_fits(r), scan::both(0 < deep, n <= left))
+    t_fits(r) && 0 < deep && r.w5 as usize <= left
 }
 
 // Whether every word of a record is in the range of its kind.
 fn in_range(r: Record) -> bool
     ensures { result ≡ in_range r }
 {
-    let kind = r.kind;
-    match kind {
-        // Kinds that follow one another stand in two arms: in one arm a run becomes a comparison, and the fact of an arm no list of its kinds.
-        5 | 7 | 10 | 13 | 16 | 18 | 20 | 23 | 35 => float_fits(r),
-        6 | 8 | 14 | 17 | 19 | 21 | 24 => float_fits(r),
-        9 | 27 | 29 => colour_fits(r),
-        28 => colour_fits(r),
-        22 | 30 | 32 | 34 | 38 | 40 | 48 => number_fits(r, 0, 255),
-        31 | 33 => number_fits(r, 0, 255),
+    match r.kind {
+        5 | 6 | 7 | 8 | 10 | 13 | 14 | 16 | 17 | 18 | 19 | 20 | 21 | 23 | 24 | 35 => float_fits(r),
+        9 | 27 | 28 | 29 => colour_fits(r),
+        22 | 30 | 31 | 32 | 33 | 34 | 38 | 40 | 48 => number_fits(r, 0, 255),
         49 => t_fits(r),
         3 | 15 => pair_fits(r),
         4 => move_fits(r),
@@ -260,8 +220,7 @@ fn in_range(r: Record) -> bool
         39 => font_fits(r),
         41 => reset_fits(r),
         42 => weight_fits(r),
-        43 | 45 => number_fits(r, 0, 1),
-        44 => number_fits(r, 0, 1),
+        43 | 44 | 45 => number_fits(r, 0, 1),
         46 => numbers_fit(r, 2, 1000000000),
         47 => shift_fits(r),
         _ => false,
@@ -274,17 +233,11 @@ fn in_range(r: Record) -> bool
 fn stands(r: Record, left: usize, deep: usize) -> bool
     ensures { result ≡ stands_of left deep r }
 {
-    let kind = r.kind;
-    let own = in_range(r);
-    if kind == 49 {
-        let n = r.w5 as usize;
-        return scan::both(own, scan::both(0 < deep, n <= left));
-    }
-    own
+    in_range(r) && (r.kind != 49 || 0 < deep && r.w5 as usize <= left)
 }
 
 // The first at fault of `count` records from `from` on, with `deep` more levels of T allowed: those inside a T, then those behind it.
-fn fault(table: &[u32], from: usize, count: usize, deep: usize) -> Checked
+fn fault(table: &[u32], from: usize, count: usize, deep: usize) -> Result<(), Refusal>
     requires { Inside table.now from count }
     ensures { result ≡ fault_of deep from (part table.now from count) }
 {
@@ -293,93 +246,87 @@ fn fault(table: &[u32], from: usize, count: usize, deep: usize) -> Checked
     while 0 < left {
         let r = record_at(table, at);
         if !stands(r, left - 1, deep) {
-            return Checked::Bad(Refusal::TableMalformed(at));
+            return Err(Refusal::TableMalformed(at));
         }
-        let kind = r.kind;
         at += 1;
         left -= 1;
-        if kind == 49 {
+        if r.kind == 49 {
             let n = r.w5 as usize;
-            // For the compiler (MEASURED, Shapes for the compiler): the slice is handed on by a copy.
-            let words = table;
-            let inner = fault(words, at, n, deep - 1);
-            if let Checked::Bad(x) = inner {
-                return Checked::Bad(x);
-            }
+            fault(table, at, n, deep - 1)?;
             at += n;
             left -= n;
         }
     }
-    Checked::Good
+    Ok(())
 }
 
 // A T at the index `at` that is in no other, with `left` records from there on: itself at fault, or the first at fault inside it.
-pub fn t_fault(table: &[u32], at: usize, left: usize, r: Record) -> Checked
+#[tactic(auto, unfolding(crate::specs::Inner::fault_of_t, tag::specs::Range::in_range, tag::specs::Range::rows))]
+pub fn t_fault(table: &[u32], at: usize, left: usize, r: Record) -> Result<(), Refusal>
     requires { (0 < left) × Inside table.now at left }
     ensures { result ≡ fault_of_t table.now at (left - 1) r }
 {
     let n = r.w5 as usize;
-    if !scan::both(t_fits(r), n <= left - 1) {
-        return Checked::Bad(Refusal::TableMalformed(at));
+    if t_fits(r) && n < left {
+        fault(table, at + 1, n, 15)
+    } else {
+        Err(Refusal::TableMalformed(at))
     }
-    fault(table, at + 1, n, 15)
 }
 
 // The excess over 1,024 records, or a broken one behind the whole ones.
-pub fn excess(table: &[u32]) -> Checked
+pub fn excess(table: &[u32]) -> Result<(), Refusal>
     ensures { result ≡ excess_of table.now }
 {
     let places = table.len() / 8;
     if places > 1024 {
-        return Checked::Bad(Refusal::TableMalformed(1024));
+        Err(Refusal::TableMalformed(1024))
+    } else if table.len() % 8 == 0 {
+        Ok(())
+    } else {
+        Err(Refusal::TableMalformed(places))
     }
-    if table.len() % 8 == 0 {
-        return Checked::Good;
-    }
-    Checked::Bad(Refusal::TableMalformed(places))
 }
 
 // ---- the grounds
 
 // Ground 5.
-pub fn check_table(table: &[u32]) -> Checked
+pub fn check_table(table: &[u32]) -> Result<(), Refusal>
     ensures { result ≡ table_ground table.now }
 {
-    let found = fault(table, 0, scan::least(table.len() / 8, 1024), 16);
-    let last = excess(table);
-    refusal::first_of(found, last)
+    fault(table, 0, (table.len() / 8).min(1024), 16)?;
+    excess(table)
 }
 
 fn in_time(z: i32) -> bool
     ensures { result ≡ in_time z }
 {
-    scan::both(-1000000000 <= z, z <= 1000000000)
+    (-1000000000..=1000000000).contains(&z)
 }
 
 // Ground 6.
-pub fn check_times(t: i32, dur: i32) -> Checked
+#[tactic(auto, unfolding(crate::specs::Ground::time_ground))]
+pub fn check_times(t: i32, dur: i32) -> Result<(), Refusal>
     ensures { result ≡ time_ground t dur }
 {
-    if scan::both(in_time(t), in_time(dur)) {
-        return Checked::Good;
+    if in_time(t) && in_time(dur) {
+        Ok(())
+    } else {
+        Err(Refusal::TimeOutOfRange)
     }
-    Checked::Bad(Refusal::TimeOutOfRange)
 }
 
 // What is left of grounds 5 and 6 where no record is at fault.
-pub fn after_records(table: &[u32], t: i32, dur: i32) -> Checked
+pub fn after_records(table: &[u32], t: i32, dur: i32) -> Result<(), Refusal>
     ensures { result ≡ first_ground (excess_of table.now) (time_ground t dur) }
 {
-    let behind = excess(table);
-    let times = check_times(t, dur);
-    refusal::first_of(behind, times)
+    excess(table).and(check_times(t, dur))
 }
 
 // Grounds 5 and 6.
-pub fn check_call(table: &[u32], t: i32, dur: i32) -> Checked
+#[tactic(auto, unfolding(crate::specs::Ground::call_ground_to))]
+pub fn check_call(table: &[u32], t: i32, dur: i32) -> Result<(), Refusal>
     ensures { result ≡ call_ground table.now t dur }
 {
-    let five = check_table(table);
-    let six = check_times(t, dur);
-    refusal::first_of(five, six)
+    check_table(table).and(check_times(t, dur))
 }

@@ -1,10 +1,10 @@
-use mathlib.Core.Path.{ap, ◌∙◌}
-use Rattle.refusal.specs.Answer.{first_ground}
+use mathlib.Core.Path.{sym}
+use borrow.Author.Rules.{rules}
 use Rattle.table.proofs.Grounds.{table_found}
 use Rattle.table.proofs.check_table.Goals as goal
 
+pub returns-in_err-fault : goal.returns-in_err-fault
+returns-in_err-fault c = rw (sym (table_found _ _ _ c.min.ensures c.fault.ensures)) (search rules)
+
 pub returns : goal.returns
-returns c =
-    let f = c.fault-found in
-    let n = c.least in
-    c.first_of.ensures ∙ ap (first_ground f.result) c.excess-last.ensures ∙ table_found _ n.result f.result n.ensures f.ensures
+returns c = rw (sym (table_found _ _ _ c.min.ensures c.fault.ensures)) (search rules)

@@ -8,5 +8,5 @@ returns-then-places-gt1024 c = rw (excess-places _, lt-leb _ _ c.if-places-gt102
 pub returns-then-table-eq0 : goal.returns-then-table-eq0
 returns-then-table-eq0 c = rw (excess-places _, le-leb _ _ c.if-places-gt1024.false, eq-eqb _ _ c.if-table-eq0.true)
 
-pub returns : goal.returns
-returns c = rw (excess-places _, le-leb _ _ c.if-places-gt1024.false, ne_eqb _ _ c.if-table-eq0.false)
+pub returns-else-table-eq0 : goal.returns-else-table-eq0
+returns-else-table-eq0 c = rw (excess-places _, le-leb _ _ c.if-places-gt1024.false, ne_eqb _ _ c.if-table-eq0.false)

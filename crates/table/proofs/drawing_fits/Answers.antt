@@ -1,4 +1,0 @@
-use Rattle.table.proofs.drawing_fits.Goals as goal
-
-pub returns : goal.returns
-returns c = cc

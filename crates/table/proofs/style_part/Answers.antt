@@ -1,8 +1,0 @@
-use borrow.Author.Tests.{eq-eqb, ne_eqb}
-use Rattle.table.proofs.style_part.Goals as goal
-
-pub returns-then-flag-eq0 : goal.returns-then-flag-eq0
-returns-then-flag-eq0 c = rw (eq-eqb _ _ c.if-flag-eq0.true) c.both.ensures
-
-pub returns : goal.returns
-returns c = rw (ne_eqb _ _ c.if-flag-eq0.false, ← c.part_fits.ensures) c.both-2.ensures
