@@ -1,6 +1,5 @@
 use borrow.Author.Rules.{rules}
-use mathlib.Core.Path.{ap, ◌∙◌}
-use Rattle.numeral.proofs.Laws.{of_word, mapped_word, i32_plus, i32_minus, i32_far}
+use Rattle.numeral.proofs.Laws.{i32_plus, i32_minus, i32_far}
 use Rattle.numeral.proofs.i32_at.Goals as goal
 
 pub returns-then-past-a : goal.returns-then-past-a

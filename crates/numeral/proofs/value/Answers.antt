@@ -2,7 +2,6 @@ use Prim.Native.Nat.{min}
 use mathlib.Core.Path.{sym, ap, ◌∙◌}
 use native.Mathlib.Omega.{arith}
 use native.Mathlib.Nat.{min-eq_right}
-use borrow.Author.Rules.{rules}
 use Rattle.numeral.specs.Numeral.{most}
 use Rattle.numeral.proofs.Laws.{value_turn, value-end}
 use Rattle.numeral.proofs.value.Goals as goal
