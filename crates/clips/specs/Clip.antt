@@ -1,13 +1,14 @@
 -- A clip argument: Rust's `split_clip_arg`.
-use Rattle.std.specs.Prelude.{◌≡◌, List, ℕ, ◌+◌, ltb, eqb, length}
+use Rattle.std.specs.Prelude.{◌≡◌, List, ℕ, ◌+◌, ltb, eqb, length, Result, Ok, Err, MatchResult}
 use Rattle.std.specs.Borrow.{Bor}
-use Rattle.scan.specs.Scan.{pick, in_class, span_to, trim_start, trim_end}
-use Rattle.scan.specs.declared.Class.TheVariants.{Not}
+use Rattle.std.specs.Result.{result_and}
+use Rattle.scan.specs.Scan.{pick, other, span_to, trim_start, trim_end}
 use Rattle.numeral.specs.Numeral.{whole_number}
-use Rattle.refusal.specs.declared.Checked.{Checked}
-use Rattle.refusal.specs.declared.Checked.TheVariants.{Good, Bad}
+use Rattle.refusal.specs.declared.Refusal.{Refusal}
 use Rattle.refusal.specs.Refusal.{text_ground}
+use Rattle.refusal.specs.Answer.{beside}
 use Rattle.clips.specs.declared.Clip.{Clip}
+use Rattle.clips.specs.declared.ClipArg.{ClipArg}
 use Rattle.clips.specs.Part.{IsPart}
 
 -- what no u32 is as large as
@@ -18,15 +19,15 @@ too_large = 4294967296
 abbrev pub at_least_one : ℕ → ℕ
 at_least_one n = pick (eqb n 0) 1 n
 
-abbrev pub clip : Checked → ℕ → ℕ → ℕ → Clip
-clip c scale from to = record { checked = c; scale = scale; from = from; to = to }
+abbrev pub clip : ℕ → ℕ → ℕ → Clip
+clip scale from to = record { scale = scale; from = from; to = to }
 
 -- where the argument begins, less leading blanks, and its first comma, or the end
 abbrev pub argument : List ℕ → ℕ
 argument s = trim_start s 0 (length s)
 
 abbrev pub comma : List ℕ → ℕ
-comma s = span_to (in_class (Not 44)) s (argument s) (length s)
+comma s = span_to (other 44) s (argument s) (length s)
 
 -- what stands before the comma, blanks around it dropped, as a whole number: digits alone, and at least one
 abbrev pub head : List ℕ → ℕ
@@ -35,24 +36,28 @@ head s = whole_number 10 s (argument s) (trim_end s (argument s) (comma s))
 -- the scale before the first comma and what is behind it, where that is a u32; else 1 and the argument; leading blanks dropped
 unfoldable pub clip_parts : List ℕ → Clip
 clip_parts s =
-    let all = clip Good 1 (argument s) (length s) in
-    let some = clip Good (at_least_one (head s)) (trim_start s (comma s + 1) (length s)) (length s) in
+    let all = clip 1 (argument s) (length s) in
+    let some = clip (at_least_one (head s)) (trim_start s (comma s + 1) (length s)) (length s) in
     pick (ltb (comma s) (length s)) (pick (ltb (head s) too_large) some all) all
 
-abbrev pub clip_by : Checked → List ℕ → Clip
-clip_by Good s = clip_parts s
-clip_by (Bad r) s = clip (Bad r) 1 0 0
+-- `split_clip_arg`, by places: grounds 1 and 2
+abbrev pub clip_of : List ℕ → Result Clip Refusal
+clip_of s = result_and (text_ground s) (Ok (clip_parts s))
 
--- `split_clip_arg`, by places: grounds 1 and 2; beside a refusal scale 1 and an empty part
-abbrev pub clip_of : List ℕ → Clip
-clip_of s = clip_by (text_ground s) s
+-- the same beside a refusal: scale 1 and an empty part
+abbrev pub parts_of : List ℕ → Clip
+parts_of s = beside (text_ground s) (clip 1 0 0) (clip_parts s)
 
 -- 01: "hands back the rest of the argument itself": r is the rest of the text t, the caller's own bytes where they lie
 abbrev pub IsRest : Bor (List ℕ) → Bor (List ℕ) → Type 0
-IsRest t r = IsPart t (clip_of t.now).from (clip_of t.now).to r
+IsRest t r = IsPart t (parts_of t.now).from (parts_of t.now).to r
 
--- what `split_clip_arg` says of its answer to the text t: the rest of it, the scale, and ground 1 or 2
-pub record Splits (t r : Bor (List ℕ)) (scale : ℕ) (c : Checked) : Type 0 where
-  pub rest : IsRest t r
-  pub size : scale ≡ (clip_of t.now).scale
-  pub ground : c ≡ text_ground t.now
+-- of an argument with nothing against it: the rest of the text t and the scale
+pub record IsArg (t : Bor (List ℕ)) (a : ClipArg) : Type 0 where
+  pub rest : IsRest t a.rest
+  pub size : a.scale ≡ (parts_of t.now).scale
+  pub ground : text_ground t.now ≡ Ok tt
+
+-- what `split_clip_arg` says of its answer to the text t: the argument, or ground 1 or 2
+abbrev pub Splits : Bor (List ℕ) → Result ClipArg Refusal → Type 0
+Splits t r = MatchResult r (IsArg t) (λ e. text_ground t.now ≡ Err e)
