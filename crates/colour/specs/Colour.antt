@@ -1,16 +1,12 @@
 -- Alphas and colours: Rust's `parse_alpha_byte` and `parse_color_rgb`, by positions. 01, Numerals: hexadecimal follows Rust's u32.
-use Rattle.std.specs.Prelude.{List, Bool, ℕ, ◌+◌, ◌-◌, ◌/◌, ◌%◌, min, get_or, leb, eqb}
-use Rattle.scan.specs.Scan.{pick, in_class, span_to, back_to, skip_to, trim_start, trim_end}
-use Rattle.scan.specs.declared.Class.TheVariants.{Is, Either}
+use Rattle.std.specs.Prelude.{List, Bool, Option, Some, None, ℕ, ◌+◌, ◌-◌, ◌/◌, ◌%◌, min, get_or, leb, eqb}
+use Rattle.scan.specs.Scan.{pick, only, one_of, span_to, back_to, skip_to, trim_start, trim_end}
 use Rattle.numeral.specs.Numeral.{hex_at}
-use Rattle.numeral.specs.declared.Numeral.{Numeral}
-use Rattle.numeral.specs.declared.Numeral.TheVariants.{No, TooLong, Word}
 use Rattle.colour.specs.declared.Stretch.{Stretch}
-use Rattle.colour.specs.declared.Colour.{Colour}
-use Rattle.colour.specs.declared.Colour.TheVariants.{Rgb}
+use Rattle.colour.specs.declared.Rgb.{Rgb}
 
 abbrev pub is_ampersand : ℕ → Bool
-is_ampersand b = in_class (Is 38) b
+is_ampersand b = only 38 b
 
 -- `trim`
 unfoldable pub trimmed : List ℕ → ℕ → ℕ → Stretch
@@ -33,16 +29,15 @@ unfoldable pub digits : List ℕ → ℕ → ℕ → Stretch
 digits s p q =
     let t = trimmed s p q in
     let u = ampersands s t.from t.to in
-    let h = span_to (in_class (Either 72 104)) s u.from u.to in
+    let h = span_to (one_of 72 104) s u.from u.to in
     record { from = skip_to zero_xat s h u.to; to = u.to }
 
-abbrev pub cap : Numeral → Numeral
-cap No = No
-cap (TooLong p) = No
-cap (Word v) = Word (min v 255)
+abbrev pub cap : Option ℕ → Option ℕ
+cap None = None
+cap (Some v) = Some (min v 255)
 
 -- the byte of an alpha: `trim_matches('&')` and `trim` once more, then hexadecimal, at most 255
-unfoldable pub alpha_at : List ℕ → ℕ → ℕ → Numeral
+unfoldable pub alpha_at : List ℕ → ℕ → ℕ → Option ℕ
 alpha_at s p q =
     let d = digits s p q in
     let u = ampersands s d.from d.to in
@@ -50,13 +45,12 @@ alpha_at s p q =
     cap (hex_at s t.from t.to)
 
 -- `&Hbbggrr&`: the lowest byte is red
-abbrev pub rgb : Numeral → Colour
-rgb No = Colour.No
-rgb (TooLong p) = Colour.No
-rgb (Word v) = Rgb (v % 256) (v / 256 % 256) (v / 65536 % 256)
+abbrev pub rgb : Option ℕ → Option Rgb
+rgb None = None
+rgb (Some v) = Some (record { red = v % 256; green = v / 256 % 256; blue = v / 65536 % 256 })
 
 -- a colour: `trim_end_matches('&')` and `trim` once more, then hexadecimal
-unfoldable pub colour_at : List ℕ → ℕ → ℕ → Colour
+unfoldable pub colour_at : List ℕ → ℕ → ℕ → Option Rgb
 colour_at s p q =
     let d = digits s p q in
     let e = back_to is_ampersand s d.from d.to in

@@ -2,7 +2,7 @@
 #![tactic(auto)]
 
 ghost use Rattle.std.specs.Prelude.{◌≡◌, ◌+◌, ◌-◌, ◌≤◌, length};
-ghost use Rattle.colour.specs.Colour.{trimmed as trimmed_to, ampersands as ampersands_to, zero_xat, digits, cap, rgb, alpha_at, colour_at};
+ghost use Rattle.colour.specs.Colour.{trimmed as trimmed_to, ampersands as ampersands_to, zero_xat, digits, alpha_at, colour_at};
 ghost use Rattle.colour.specs.Inner.{Inside};
 ghost use Rattle.scan.specs.Scan.{skip_to, Place};
 
@@ -13,14 +13,16 @@ pub struct Stretch {
     pub to: usize,
 }
 
-// A colour: none, or red, green and blue.
+// A colour.
 #[derive(Clone, Copy, Drop)]
-pub enum Colour {
-    No,
-    Rgb(u32, u32, u32),
+pub struct Rgb {
+    pub red: u32,
+    pub green: u32,
+    pub blue: u32,
 }
 
 // The part less the blanks at both ends.
+#[tactic(auto, unfolding(crate::specs::Colour::trimmed))]
 fn trimmed(text: &[u8], p: usize, q: usize) -> Stretch
     requires { (p ≤ q) × (q ≤ length text.now) }
     ensures { Inside p q (trimmed_to text.now p q) result }
@@ -31,26 +33,24 @@ fn trimmed(text: &[u8], p: usize, q: usize) -> Stretch
 }
 
 // The part less the ampersands at both ends.
+#[tactic(auto, unfolding(crate::specs::Colour::ampersands))]
 fn ampersands(text: &[u8], p: usize, q: usize) -> Stretch
     requires { (p ≤ q) × (q ≤ length text.now) }
     ensures { Inside p q (ampersands_to text.now p q) result }
 {
-    let from = scan::span(text, scan::Class::Is(38), p, q);
-    let to = scan::span_back(text, scan::Class::Is(38), from, q);
+    let from = scan::span(text, scan::Is(b'&'), p, q);
+    let to = scan::span_back(text, scan::Is(b'&'), from, q);
     Stretch { from, to }
 }
 
 // The width of a `0x` that starts at i, 0 where none does.
+#[tactic(auto, unfolding(crate::specs::Colour::zero_xat))]
 fn zero_x_at(text: &[u8], i: usize, to: usize) -> usize
     requires { (i ≤ to) × (to ≤ length text.now) }
     ensures { (result ≡ zero_xat text.now i to) × (i + result ≤ to) }
 {
-    if to - i >= 2 {
-        if text[i] == 48 {
-            if text[i + 1] == 120 {
-                return 2;
-            }
-        }
+    if to - i >= 2 && text[i] == b'0' && text[i + 1] == b'x' {
+        return 2;
     }
     0
 }
@@ -71,6 +71,7 @@ fn past_zero_x(text: &[u8], from: usize, to: usize) -> usize
 }
 
 // The part behind what may stand before the digits.
+#[tactic(auto, unfolding(crate::specs::Colour::digits))]
 fn digits_of(text: &[u8], p: usize, q: usize) -> Stretch
     requires { (p ≤ q) × (q ≤ length text.now) }
     ensures { Inside p q (digits text.now p q) result }
@@ -78,56 +79,36 @@ fn digits_of(text: &[u8], p: usize, q: usize) -> Stretch
     let t = trimmed(text, p, q);
     let u = ampersands(text, t.from, t.to);
     let to = u.to;
-    let h = scan::span(text, scan::Class::Either(72, 104), u.from, to);
+    let h = scan::span(text, scan::Either(b'H', b'h'), u.from, to);
     let from = past_zero_x(text, h, to);
     Stretch { from, to }
 }
 
-fn capped(n: numeral::Numeral) -> numeral::Numeral
-    ensures { result ≡ cap n }
-{
-    match n {
-        numeral::Numeral::Word(v) => {
-            if v > 255 {
-                numeral::Numeral::Word(255)
-            } else {
-                numeral::Numeral::Word(v)
-            }
-        }
-        numeral::Numeral::TooLong(_) => numeral::Numeral::No,
-        numeral::Numeral::No => numeral::Numeral::No,
-    }
-}
-
 // The byte of an alpha, as `parse_alpha_byte` reads it.
-pub fn alpha_at(text: &[u8], p: usize, q: usize) -> numeral::Numeral
+#[tactic(auto, unfolding(crate::specs::Colour::alpha_at))]
+pub fn alpha_at(text: &[u8], p: usize, q: usize) -> Option<u32>
     requires { (p ≤ q) × (q ≤ length text.now) }
     ensures { result ≡ alpha_at text.now p q }
 {
     let d = digits_of(text, p, q);
     let u = ampersands(text, d.from, d.to);
     let t = trimmed(text, u.from, u.to);
-    capped(numeral::hex_at(text, t.from, t.to))
-}
-
-fn rgb_of(n: numeral::Numeral) -> Colour
-    ensures { result ≡ rgb n }
-{
-    match n {
-        numeral::Numeral::Word(v) => Colour::Rgb(v % 256, v / 256 % 256, v / 65536 % 256),
-        numeral::Numeral::TooLong(_) => Colour::No,
-        numeral::Numeral::No => Colour::No,
-    }
+    numeral::hex_at(text, t.from, t.to).map(|v| v.min(255))
 }
 
 // A colour, as `parse_color_rgb` reads it.
-pub fn colour_at(text: &[u8], p: usize, q: usize) -> Colour
+#[tactic(auto, unfolding(crate::specs::Colour::colour_at))]
+pub fn colour_at(text: &[u8], p: usize, q: usize) -> Option<Rgb>
     requires { (p ≤ q) × (q ≤ length text.now) }
     ensures { result ≡ colour_at text.now p q }
 {
     let d = digits_of(text, p, q);
     let from = d.from;
-    let to = scan::span_back(text, scan::Class::Is(38), from, d.to);
+    let to = scan::span_back(text, scan::Is(b'&'), from, d.to);
     let t = trimmed(text, from, to);
-    rgb_of(numeral::hex_at(text, t.from, t.to))
+    numeral::hex_at(text, t.from, t.to).map(|v| Rgb {
+        red: v % 256,
+        green: v / 256 % 256,
+        blue: v / 65536 % 256,
+    })
 }

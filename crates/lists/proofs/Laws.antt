@@ -7,8 +7,7 @@ use Prim.Native.Nat.{ℕ, zero, suc, ◌+◌, ◌-◌, ◌≤◌, ◌<◌}
 use native.Mathlib.Omega.{arith}
 use lib.ListN.{length, set, replicate}
 use borrow.Author.Tests.{lt-ltb, le-ltb}
-use Rattle.scan.specs.Scan.{pick, in_class}
-use Rattle.scan.specs.declared.Class.TheVariants.{Not}
+use Rattle.scan.specs.Scan.{pick, other}
 use Rattle.scan.proofs.Laws.{span-end, span-low, le_or_lt}
 use Rattle.numeral.specs.declared.Numeral.{Numeral}
 use Rattle.lists.specs.declared.Numbers.{Numbers}
@@ -22,15 +21,15 @@ fuel : (s : List ℕ) (e n m p : ℕ) → p ≤ e → e ≤ p + n → e ≤ p + 
 unfolding split
 fuel s e zero zero p h a b = refl
 fuel s e zero (suc m) p h a b =
-    let z : comma_to s p e ≡ p = span-end (in_class (Not 44)) s p e (omega arith) in
+    let z : comma_to s p e ≡ p = span-end (other 44) s p e (omega arith) in
     let y : p ≡ e = omega arith in
     rw (z, le-ltb p e (omega arith), y)
 fuel s e (suc n) zero p h a b =
-    let z : comma_to s p e ≡ p = span-end (in_class (Not 44)) s p e (omega arith) in
+    let z : comma_to s p e ≡ p = span-end (other 44) s p e (omega arith) in
     let y : p ≡ e = omega arith in
     rw (z, le-ltb p e (omega arith), y)
 fuel s e (suc n) (suc m) p h a b =
-    let l = span-low (in_class (Not 44)) s (e - p) p in
+    let l = span-low (other 44) s (e - p) p in
     ⊎_elim
     (λ (k : e ≤ comma_to s p e). rw (le-ltb (comma_to s p e) e k))
     (λ (k : comma_to s p e < e). rw (lt-ltb (comma_to s p e) e k, fuel s e n m (comma_to s p e + 1) (omega arith) (omega arith) (omega arith)))
@@ -54,7 +53,7 @@ module _ (s : List ℕ) (e p c : ℕ) (h : p ≤ e) (q : c ≡ comma_to s p e) w
   split-more : c < e → parts s p e ≡ part ∷ parts s (c + 1) e
   unfolding split part
   split-more k =
-      let l = span-low (in_class (Not 44)) s (e - p) p in
+      let l = span-low (other 44) s (e - p) p in
       let z : e - p ≡ suc (e - (p + 1)) = omega arith in
       rw (z, ← q, lt-ltb c e k, fuel s e (e - (p + 1)) (e - (c + 1)) (c + 1) (omega arith) (omega arith) (omega arith))
 

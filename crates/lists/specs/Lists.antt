@@ -1,7 +1,6 @@
 -- Comma lists, by positions: the parts that Rust's `parse_int_list` and `parse_float_list` read numbers from.
 use Rattle.std.specs.Prelude.{List, [], ◌∷◌, ℕ, zero, suc, ◌+◌, ◌-◌, ltb}
-use Rattle.scan.specs.Scan.{pick, in_class, span_to}
-use Rattle.scan.specs.declared.Class.TheVariants.{Not}
+use Rattle.scan.specs.Scan.{pick, other, span_to}
 use Rattle.lists.specs.declared.Found.{Found}
 use Rattle.lists.specs.declared.Found.TheVariants.{Nowhere, At}
 
@@ -12,7 +11,7 @@ pub record Stretch : Type 0 where
 
 -- the place of the next comma from p on, else e
 abbrev pub comma_to : List ℕ → ℕ → ℕ → ℕ
-comma_to s p e = span_to (in_class (Not 44)) s p e
+comma_to s p e = span_to (other 44) s p e
 
 -- `split(',')`: there is always one part
 unfoldable pub split : List ℕ → ℕ → ℕ → ℕ → List Stretch

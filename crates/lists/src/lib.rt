@@ -100,7 +100,7 @@ pub fn numbers_at(text: &[u8], whole: bool, p: usize, e: usize) -> Numbers
     let mut too_long = Found::Nowhere;
     let mut i = p;
     loop {
-        let c = scan::span(text, scan::Class::Not(44), i, e);
+        let c = scan::span(text, scan::Not(44), i, e);
         let n = item(text, whole, i, c);
         all = scan::both(all, is_word(n));
         let next = stored(words, count, word_of(n));

@@ -8,8 +8,7 @@ use native.Mathlib.Omega.{arith}
 use native.Mathlib.Nat.{le_trans}
 use lib.ListN.{get_or}
 use lib.Dec.{eqb}
-use Rattle.scan.specs.Scan.{pick, in_class, is_blank, blank_before, span, span_to, skip_back, trim_start, trim_end}
-use Rattle.scan.specs.declared.Class.TheVariants.{Not}
+use Rattle.scan.specs.Scan.{pick, other, is_blank, blank_before, span, span_to, skip_back, trim_start, trim_end}
 use Rattle.scan.proofs.Bounds.{tested, trim_start-low, trim_end-high}
 use Rattle.numeral.specs.Numeral.{too_long_lem, f32_at}
 use Rattle.survey.specs.Survey.{is_stop, Unplain}
@@ -48,7 +47,7 @@ span-ends p s top i e g h f =
     let z : i + (e - i) ≡ e = omega arith in
     ⊎_elim (λ (k : span_to p s i e ≡ i + (e - i)). rw (k, z) f) (λ (k : p (get_or s (span_to p s i e) 0) ≡ false). inr (g _ k)) (span_stops p s (e - i) i)
 
-pub not_stops : (c : ℕ) → is_stop c ≡ true → (b : ℕ) → in_class (Not c) b ≡ false → is_stop b ≡ true
+pub not_stops : (c : ℕ) → is_stop c ≡ true → (b : ℕ) → other c b ≡ false → is_stop b ≡ true
 not_stops c f b e = go (eqb b c) refl e
   where
     go : (t : Bool) → eqb b c ≡ t → not t ≡ false → is_stop b ≡ true

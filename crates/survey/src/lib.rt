@@ -10,11 +10,11 @@ ghost use Rattle.survey.specs.Survey.{slashes_to, is_exponent, is_stop, ends_fie
 fn is_exponent(a: u8, b: u8) -> bool
     ensures { result ≡ is_exponent a b }
 {
-    if scan::has(scan::Class::Either(69, 101), b) {
+    if scan::has(scan::Either(69, 101), b) {
         if a == 46 {
             return true;
         }
-        return scan::has(scan::Class::Digit(10), a);
+        return scan::has(scan::Digit(10), a);
     }
     false
 }
@@ -30,7 +30,7 @@ fn is_stop(b: u8) -> bool
     if b == 41 {
         return true;
     }
-    scan::has(scan::Class::Either(44, 92), b)
+    scan::has(scan::Either(44, 92), b)
 }
 
 // Whether the exponent whose e is at k goes on to the end of a field; in a colour as &H8E2F00& it does not.
@@ -38,8 +38,8 @@ fn ends_field(text: &[u8], k: usize, to: usize) -> bool
     requires { (k < to) × (to ≤ length text.now) }
     ensures { result ≡ ends_field text.now k to }
 {
-    let d = scan::past(text, scan::Class::Either(43, 45), k + 1, to);
-    let end = scan::span(text, scan::Class::Digit(10), d, to);
+    let d = scan::past(text, scan::Either(43, 45), k + 1, to);
+    let end = scan::span(text, scan::Digit(10), d, to);
     if end < to {
         return is_stop(text[end]);
     }
@@ -87,8 +87,8 @@ fn run_around(text: &[u8], from: usize, k: usize, to: usize) -> usize
     requires { (from ≤ k) × (k ≤ to) × (to ≤ length text.now) }
     ensures { result ≡ span_to is_digit text.now k to - back_to is_digit text.now from k }
 {
-    let a = scan::span_back(text, scan::Class::Digit(10), from, k);
-    scan::span(text, scan::Class::Digit(10), k, to) - a
+    let a = scan::span_back(text, scan::Digit(10), from, k);
+    scan::span(text, scan::Digit(10), k, to) - a
 }
 
 // Whether no ten digits stand in a row: of any ten places in a row one is looked at.
@@ -99,7 +99,7 @@ fn no_ten(text: &[u8], from: usize, to: usize) -> bool
     let mut i = from;
     while to - i > 9 {
         let k = i + 9;
-        if scan::has(scan::Class::Digit(10), text[k]) {
+        if scan::has(scan::Digit(10), text[k]) {
             if run_around(text, from, k, to) > 9 {
                 return false;
             }
