@@ -10,9 +10,9 @@ ghost use Rattle.apply.specs.Inner.{fade_mul, moved_at};
 pub mod times;
 pub mod values;
 
-use state::{Alphas, Line, MaybePair, OptPair};
+use state::{Alphas, Line, Pair};
 use times::{alpha_to_mul, fade_alpha};
-use values::{byte, pair, some_u8, this_u8};
+use values::{byte, pair};
 
 // ---- what every state has
 
@@ -21,14 +21,16 @@ use values::{byte, pair, some_u8, this_u8};
 pub fn fade_by(w1: u32, w2: u32, w3: u32, w4: u32, w5: u32, w6: u32, w7: u32, t: i32) -> f32
     ensures { result ≡ fade_mul w1 w2 w3 w4 w5 w6 w7 t }
 {
-    let a1 = byte(w1);
-    let a2 = byte(w2);
-    let a3 = byte(w3);
-    let t1 = float::of_word(w4);
-    let t2 = float::of_word(w5);
-    let t3 = float::of_word(w6);
-    let t4 = float::of_word(w7);
-    alpha_to_mul(fade_alpha(a1, a2, a3, t1, t2, t3, t4, t))
+    alpha_to_mul(fade_alpha(
+        byte(w1),
+        byte(w2),
+        byte(w3),
+        float::of_word(w4),
+        float::of_word(w5),
+        float::of_word(w6),
+        float::of_word(w7),
+        t,
+    ))
 }
 
 // percent / 100.0
@@ -54,13 +56,10 @@ pub fn above_zero(w: u32) -> f32
 
 // The place that \move has come to.
 // For the compiler (MEASURED, Shapes for the compiler): each word of a record is handed over by itself.
-pub fn moved(w1: u32, w2: u32, w3: u32, w4: u32, k: f32) -> MaybePair
-    ensures { result.is ≡ moved_at w1 w2 w3 w4 k }
+pub fn moved(w1: u32, w2: u32, w3: u32, w4: u32, k: f32) -> Pair
+    ensures { result ≡ moved_at w1 w2 w3 w4 k }
 {
-    let a = pair(w1, w2);
-    let b = pair(w3, w4);
-    let is = OptPair::Some(ramp::mix_pair(a, b, k));
-    MaybePair { is }
+    ramp::mix_pair(pair(w1, w2), pair(w3, w4), k)
 }
 
 // ---- alphas
@@ -68,43 +67,41 @@ pub fn moved(w1: u32, w2: u32, w3: u32, w4: u32, k: f32) -> MaybePair
 pub fn all_alphas(a: u32) -> Alphas
     ensures { result ≡ all_alphas a }
 {
-    let primary_alpha = some_u8(a);
-    let secondary_alpha = some_u8(a);
-    let outline_alpha = some_u8(a);
-    let shadow_alpha = some_u8(a);
+    let all = Some(byte(a));
     Alphas {
-        primary_alpha,
-        secondary_alpha,
-        outline_alpha,
-        shadow_alpha,
+        primary_alpha: all,
+        secondary_alpha: all,
+        outline_alpha: all,
+        shadow_alpha: all,
     }
 }
 
 // ---- line
 
 // An alignment outside 1 to 9 changes nothing.
+#[tactic(auto, unfolding(state::specs::Apply::aligned))]
 pub fn aligned(s: Line, n: u32) -> Line
     ensures { result ≡ aligned_by s n }
 {
-    if n < 1 {
+    if n < 1 || n > 9 {
         return s;
     }
-    if n > 9 {
-        return s;
+    Line {
+        alignment: Some(n as u8),
+        ..s
     }
-    let mut line = s;
-    line.alignment = this_u8(n as u8);
-    line
 }
 
 // Nor does a wrap style above 3.
+#[tactic(auto, unfolding(state::specs::Apply::wrapped))]
 pub fn wrapped(s: Line, n: u32) -> Line
     ensures { result ≡ wrapped_by s n }
 {
     if n > 3 {
         return s;
     }
-    let mut line = s;
-    line.wrap_style = this_u8(n as u8);
-    line
+    Line {
+        wrap_style: Some(n as u8),
+        ..s
+    }
 }
