@@ -1,5 +1,5 @@
 -- 01, A table record: the table as an encoding of the tags.
-use Rattle.std.specs.Prelude.{ℕ, ◌/◌, List, [], ◌∷◌, ◌++◌, Bool, true, false, Float, length}
+use Rattle.std.specs.Prelude.{ℕ, ◌/◌, List, [], ◌∷◌, ◌++◌, Bool, true, false, Float, length, get_or}
 pub use Rattle.rows.specs.Rows.{bits}
 use Rattle.rows.specs.Rows.{laid_rows}
 use Rattle.float.specs.Float.{to_word}
@@ -15,6 +15,10 @@ width = 8
 -- a record: its kind and seven words
 abbrev pub rec : ℕ → ℕ → ℕ → ℕ → ℕ → ℕ → ℕ → ℕ → Record
 rec k a b c d e f g = record { kind = k; w1 = a; w2 = b; w3 = c; w4 = d; w5 = e; w6 = f; w7 = g }
+
+-- its first words given; the others are 0
+abbrev pub record_of : ℕ → List ℕ → Record
+record_of k l = rec k (get_or l 0 0) (get_or l 1 0) (get_or l 2 0) (get_or l 3 0) (get_or l 4 0) (get_or l 5 0) (get_or l 6 0)
 
 abbrev pub words : Record → List ℕ
 words r = r.kind ∷ r.w1 ∷ r.w2 ∷ r.w3 ∷ r.w4 ∷ r.w5 ∷ r.w6 ∷ r.w7 ∷ []

@@ -1,8 +1,8 @@
 // A table record and how it is written.
 #![tactic(auto)]
 
-ghost use Rattle.std.specs.Prelude.{◌≡◌, [], ◌∷◌};
-ghost use Rattle.tag.specs.Table.{words, kind_word, laid};
+ghost use Rattle.std.specs.Prelude.{◌≡◌, ◌≤◌, [], ◌∷◌};
+ghost use Rattle.tag.specs.Table.{record_of, words, kind_word, laid};
 
 // 01, A table record: the kind, then seven words.
 #[derive(Clone, Copy, Drop)]
@@ -18,6 +18,26 @@ pub struct Record {
 }
 
 impl Record {
+    // The record of a kind with its first words given; the others are 0.
+    pub fn of<const N: usize>(kind: u32, words: [u32; N]) -> Record
+        requires { N ≤ 7 }
+        ensures { result ≡ record_of kind words.entry }
+    {
+        let mut w = [0; 7];
+        w[..N].copy_from_slice(&words);
+        let [w1, w2, w3, w4, w5, w6, w7] = w;
+        Record {
+            kind,
+            w1,
+            w2,
+            w3,
+            w4,
+            w5,
+            w6,
+            w7,
+        }
+    }
+
     // The kind, then the seven words.
     pub fn words(self) -> [u32; 8]
         ensures { result ≡ words self }
