@@ -5,16 +5,16 @@ use mathlib.Core.Bool.{Bool, true, false}
 use mathlib.Core.Logic.{⊎_elim}
 use Prim.Native.Nat.{ℕ, zero, suc, ◌+◌, ◌-◌, ◌≤◌, ◌<◌}
 use native.Mathlib.Omega.{arith}
-use lib.ListN.{length, set, replicate}
+use lib.ListN.{length, replicate}
 use borrow.Author.Tests.{lt-ltb, le-ltb}
 use Rattle.scan.specs.Scan.{pick, other}
 use Rattle.scan.proofs.Laws.{span-end, span-low, le_or_lt}
 use Rattle.numeral.specs.declared.Numeral.{Numeral}
 use Rattle.lists.specs.declared.Numbers.{Numbers}
-use Rattle.lists.specs.declared.Found.{Found}
-use Rattle.lists.specs.declared.Found.TheVariants.{Nowhere, At}
+use Rattle.std.specs.Prelude.{Option, Some, None}
+use Rattle.numeral.specs.Numeral.{too_long}
 use Rattle.lists.specs.Lists.{Stretch, comma_to, split, parts, first_of}
-use Rattle.lists.specs.Inner.{item_at, items, items_to, is_word, word_of, long_of, all_words, filled, first_long, numbers_of}
+use Rattle.lists.specs.Inner.{item_at, items, items_to, is_word, all_words, filled, first_long, pushed, numbers_of}
 
 -- more fuel than there are bytes left changes nothing
 fuel : (s : List ℕ) (e n m p : ℕ) → p ≤ e → e ≤ p + n → e ≤ p + m → split s e n p ≡ split s e m p
@@ -66,53 +66,45 @@ module _ (s : List ℕ) (e p c : ℕ) (h : p ≤ e) (q : c ≡ comma_to s p e) w
   items_more whole k = ap (items whole s) (split-more k)
 
 -- where the reading of a list stands: what is found so far, and what is left
-pub record Listing (full rest : List Numeral) (all : Bool) (n : ℕ) (words : List ℕ) (long : Found) : Type 0 where
-  pub right : all_words full ≡ pick all (all_words rest) false
-  pub count : n + length rest ≡ length full
-  pub array : filled (replicate 7 0) 0 full ≡ filled words n rest
-  pub first : first_long full ≡ first_of long (first_long rest)
+pub record Listing (full rest : List Numeral) (l : Numbers) : Type 0 where
+  pub right : all_words full ≡ pick l.all (all_words rest) false
+  pub count : l.count + length rest ≡ length full
+  pub array : filled (replicate 7 0) 0 full ≡ filled l.words l.count rest
+  pub first : first_long full ≡ first_of l.too_long (first_long rest)
 
-pub listing_start : (l : List Numeral) → Listing l l true 0 (replicate 7 0) Nowhere
-listing_start l = record { right = refl; count = omega arith; array = refl; first = refl }
+pub listing_start : (full : List Numeral) → Listing full full (record { all = true; count = 0; words = replicate 7 0; too_long = None })
+listing_start full = record { right = refl; count = omega arith; array = refl; first = refl }
 
 pick_assoc : (x y z : Bool) → pick x (pick y z false) false ≡ pick (pick x y false) z false
 pick_assoc true y z = refl
 pick_assoc false y z = refl
 
-first_assoc : (x y z : Found) → first_of x (first_of y z) ≡ first_of (first_of x y) z
-first_assoc Nowhere y z = refl
-first_assoc (At p) y z = refl
+first_assoc : (x y z : Option ℕ) → first_of x (first_of y z) ≡ first_of (first_of x y) z
+first_assoc None y z = refl
+first_assoc (Some p) y z = refl
 
-pub listing_turn : {full rest : List Numeral} {y x : Numeral} {all v all' : Bool} {n w : ℕ} {a a' : List ℕ} {long f long' : Found} → Listing full (y ∷ rest) all n a long → x ≡ y
-    → v ≡ is_word x
-    → all' ≡ pick all v false
-    → w ≡ word_of x
-    → a' ≡ set a n w
-    → f ≡ long_of x
-    → long' ≡ first_of long f
-    → Listing full rest all' (n + 1) a' long'
+pub listing_turn : {full rest : List Numeral} {x : Numeral} {l : Numbers} → Listing full (x ∷ rest) l → Listing full rest (pushed l x)
 unfolding all_words filled first_long
-listing_turn {full} {rest} {y} {x} {all} {v} {all'} {n} {w} {a} {a'} {long} {f} {long'} l q d e g h i j =
+listing_turn {full} {rest} {x} {l} h =
     record {
-      right = rw (e, d, q) (l.right ∙ pick_assoc all (is_word y) (all_words rest));
-      count = omega (arith, l.count);
-      array = rw (h, g, q) l.array;
-      first = rw (j, i, q) (l.first ∙ first_assoc long (long_of y) (first_long rest));
+      right = h.right ∙ pick_assoc l.all (is_word x) (all_words rest);
+      count = omega (arith, h.count);
+      array = h.array;
+      first = h.first ∙ first_assoc l.too_long (too_long x) (first_long rest);
     }
 
 pick_end : (x : Bool) → pick x true false ≡ x
 pick_end true = refl
 pick_end false = refl
 
-first-end : (x : Found) → first_of x Nowhere ≡ x
-first-end Nowhere = refl
-first-end (At p) = refl
+first-end : (x : Option ℕ) → first_of x None ≡ x
+first-end None = refl
+first-end (Some p) = refl
 
-pub listing_end : {full : List Numeral} {all : Bool} {n : ℕ} {a : List ℕ} {long : Found} → Listing full [] all n a long
-    → ◌≡◌ {A = Numbers} (record { all = all; count = n; words = a; too_long = long }) (numbers_of full)
+pub listing_end : {full : List Numeral} {l : Numbers} → Listing full [] l → l ≡ numbers_of full
 unfolding all_words filled first_long
-listing_end {full} {all} {n} {a} {long} l =
-    let m : length full ≡ n = omega (arith, l.count) in
-    let b : all_words full ≡ all = l.right ∙ pick_end all in
-    let f : first_long full ≡ long = l.first ∙ first-end long in
-    rw (m, b, l.array, f)
+listing_end {full} {l} h =
+    let m : length full ≡ l.count = omega (arith, h.count) in
+    let b : all_words full ≡ l.all = h.right ∙ pick_end l.all in
+    let f : first_long full ≡ l.too_long = h.first ∙ first-end l.too_long in
+    rw (m, b, h.array, f)

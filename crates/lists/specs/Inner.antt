@@ -1,12 +1,10 @@
 -- What the inner functions say, in the code's words: nothing here is a promise to a caller.
-use Rattle.std.specs.Prelude.{List, [], ◌∷◌, Bool, true, false, ℕ, ◌+◌, length, set, replicate}
+use Rattle.std.specs.Prelude.{List, [], ◌∷◌, Bool, true, false, Option, None, ℕ, ◌+◌, length, set, replicate}
 use Rattle.scan.specs.Scan.{pick}
-use Rattle.numeral.specs.Numeral.{i32_at, f32_at, word_of_i32, word_of_f32}
+use Rattle.numeral.specs.Numeral.{i32_at, f32_at, word_of_i32, word_of_f32, too_long}
 use Rattle.numeral.specs.declared.Numeral.{Numeral}
 use Rattle.numeral.specs.declared.Numeral.TheVariants.{No, TooLong, Word}
 use Rattle.lists.specs.declared.Numbers.{Numbers}
-use Rattle.lists.specs.declared.Found.{Found}
-use Rattle.lists.specs.declared.Found.TheVariants.{Nowhere, At}
 use Rattle.lists.specs.Lists.{Stretch, parts, first_of}
 
 -- the number that a part holds: an i32, or an f32
@@ -32,12 +30,6 @@ word_of No = 0
 word_of (TooLong p) = 0
 word_of (Word w) = w
 
--- the place of a numeral that is too long
-abbrev pub long_of : Numeral → Found
-long_of No = Nowhere
-long_of (TooLong p) = At p
-long_of (Word w) = Nowhere
-
 unfoldable pub all_words : List Numeral → Bool
 all_words [] = true
 all_words (x ∷ l) = let r = all_words l in pick (is_word x) r false
@@ -48,9 +40,13 @@ filled a n [] = a
 filled a n (x ∷ l) = filled (set a n (word_of x)) (n + 1) l
 
 -- 01, ground 3: the first numeral of the list that is too long
-unfoldable pub first_long : List Numeral → Found
-first_long [] = Nowhere
-first_long (x ∷ l) = let r = first_long l in first_of (long_of x) r
+unfoldable pub first_long : List Numeral → Option ℕ
+first_long [] = None
+first_long (x ∷ l) = let r = first_long l in first_of (too_long x) r
 
 abbrev pub numbers_of : List Numeral → Numbers
 numbers_of l = record { all = all_words l; count = length l; words = filled (replicate 7 0) 0 l; too_long = first_long l }
+
+-- the numbers of a list with one part more
+abbrev pub pushed : Numbers → Numeral → Numbers
+pushed l x = record { all = pick l.all (is_word x) false; count = l.count + 1; words = set l.words l.count (word_of x); too_long = first_of l.too_long (too_long x) }

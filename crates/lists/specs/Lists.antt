@@ -1,8 +1,6 @@
 -- Comma lists, by positions: the parts that Rust's `parse_int_list` and `parse_float_list` read numbers from.
-use Rattle.std.specs.Prelude.{List, [], ◌∷◌, ℕ, zero, suc, ◌+◌, ◌-◌, ltb}
+use Rattle.std.specs.Prelude.{List, [], ◌∷◌, Option, Some, None, ℕ, zero, suc, ◌+◌, ◌-◌, ltb}
 use Rattle.scan.specs.Scan.{pick, other, span_to}
-use Rattle.lists.specs.declared.Found.{Found}
-use Rattle.lists.specs.declared.Found.TheVariants.{Nowhere, At}
 
 -- a part of the list, from one place to another
 pub record Stretch : Type 0 where
@@ -26,6 +24,6 @@ abbrev pub parts : List ℕ → ℕ → ℕ → List Stretch
 parts s p e = split s e (e - p) p
 
 -- the first of two places that there is
-abbrev pub first_of : Found → Found → Found
-first_of Nowhere b = b
-first_of (At p) b = At p
+abbrev pub first_of : Option ℕ → Option ℕ → Option ℕ
+first_of None b = b
+first_of (Some p) b = Some p
