@@ -1,8 +1,7 @@
 -- Floats by their sign and against a bound: what is shown of each case holds of every float that passed a test.
-use Rattle.std.proofs.Common.{◌≡◌, ℕ, zero, suc, ◌+◌, ◌*◌, ◌^◌, ◌<◌, ◌≤◌, Bool, true, false, T, ℤ, pos, sym, subst, true≢false, le_of_eq, lt_of_lt_of_le, le-add_right, lt_of_le_of_lt, lt_irrefl, zero-lt-suc, mul-pos, zero-mul, mul-one, arith, ltb→lt, lt→ltb, ltb-false, ltb-true}
-use lib.Ieee.{Float, nan, inf, fin, binary32, lt, of_bits, up, down}
+use Rattle.std.proofs.Common.{◌≡◌, ℕ, zero, suc, ◌+◌, ◌*◌, ◌^◌, ◌<◌, ◌≤◌, true, false, T, ℤ, pos, sym, subst, lt_irrefl, zero-lt-suc, mul-pos, zero-mul, mul-one, arith, ltb→lt, lt→ltb, ltb-false, ltb-true}
+use lib.Ieee.{Float, nan, inf, fin, binary32, lt, neg, of_bits, up, down}
 use lib.Ieee.Fits.{up_pos}
-use lib.Ieee.Positive.{positive}
 use Rattle.float.specs.Float.{zero as +0}
 
 -- ---- the tests of the code
@@ -13,14 +12,6 @@ is-above x e = subst T (sym e) tt
 pub is_below : (x : Float) → lt x (of_bits binary32 0) ≡ true → T (lt x +0)
 unfolding of_bits
 is_below x e = subst T (sym e) tt
-
-pub not-above : (x : Float) → lt (of_bits binary32 0) x ≡ false → lt +0 x ≡ false
-unfolding of_bits
-not-above x e = e
-
-pub not-below : (x : Float) → lt x (of_bits binary32 0) ≡ false → lt x +0 ≡ false
-unfolding of_bits
-not-below x e = e
 
 -- ---- above zero, below it, neither
 grows : (m : ℕ) (e : ℤ) → 0 < suc m * up e * 1
@@ -48,18 +39,9 @@ module _ (P : Float → Type 0) where
   below_cases i f (fin true (suc m) e) h = f m e
   below_cases i f (fin false m e) h = absurd (lt_irrefl 0 (omega (arith, zero-mul (down e), ltb→lt (m * up e * 1) (0 * down e) h)))
 
-  pub not_above_cases : P nan → ((x : Float) → T (lt x +0) → P x) → ((s : Bool) (e : ℤ) → P (fin s zero e)) → (x : Float) → lt +0 x ≡ false → P x
-  unfolding lt
-  not_above_cases n b z nan h = n
-  not_above_cases n b z (inf true) h = b (inf true) tt
-  not_above_cases n b z (inf false) h = absurd (true≢false h)
-  not_above_cases n b z (fin s zero e) h = z s e
-  not_above_cases n b z (fin true (suc m) e) h = b (fin true (suc m) e) (lt→ltb 0 (suc m * up e * 1 + 0 * down e) (lt_of_lt_of_le (grows m e) (le-add_right (suc m * up e * 1) (0 * down e))))
-  not_above_cases n b z (fin false (suc m) e) h = absurd (subst T h (lt→ltb (0 * down e) (suc m * up e * 1) (lt_of_le_of_lt (le_of_eq (zero-mul (down e))) (grows m e))))
-
-pub zero_cases : (P : Float → Type 0) → P nan → ((s : Bool) (e : ℤ) → P (fin s zero e)) → (x : Float) → lt +0 x ≡ false → lt x +0 ≡ false → P x
-zero_cases P n z x a b =
-    not_above_cases (λ (y : Float). lt y +0 ≡ false → P y) (λ (g : lt nan +0 ≡ false). n) (λ (y : Float) (h : T (lt y +0)) (g : lt y +0 ≡ false). absurd (subst T g h)) (λ (s : Bool) (e : ℤ) (g : lt (fin s zero e) +0 ≡ false). z s e) x a b
+pub flipped : (x : Float) → T (lt x +0) → T (lt +0 (neg x))
+unfolding lt neg
+flipped = below_cases (λ (x : Float). T (lt +0 (neg x))) tt (λ (m : ℕ) (e : ℤ). lt→ltb (0 * down e) (suc m * up e * 1) (omega (arith, zero-mul (down e), mul-pos {m = suc m} {n = up e} (omega arith) (up_pos e))))
 
 -- ---- against a whole number k * 2 ^ j
 module _ (m : ℕ) (e : ℤ) (k j : ℕ) where
@@ -70,8 +52,3 @@ module _ (m : ℕ) (e : ℤ) (k j : ℕ) where
   pub not_less : lt (fin false m e) (fin false k (pos j)) ≡ false → k * 2 ^ j * down e ≤ m * up e
   unfolding lt
   not_less h = omega (arith, mul-one (m * up e), ltb-false (m * up e * 1) (k * 2 ^ j * down e) h)
-
--- ---- above zero and not infinite
-pub positive_of : (x : Float) → T (lt +0 x) → lt x (inf false) ≡ true → T (positive x)
-unfolding lt
-positive_of = above_cases (λ (x : Float). lt x (inf false) ≡ true → T (positive x)) (λ (h : false ≡ true). absurd (true≢false (sym h))) (λ (m : ℕ) (e : ℤ) (h : true ≡ true). lt→ltb 0 (suc m) (zero-lt-suc m))

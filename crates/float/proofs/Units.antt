@@ -1,9 +1,10 @@
 -- An f32's size in units of the smallest f32, 2 ^ -149: a whole number of them, with few digits.
-use Rattle.std.proofs.Common.{◌≡◌, ℕ, zero, suc, ◌+◌, ◌-◌, ◌*◌, ◌%◌, ◌^◌, ◌<◌, ◌≤◌, Bool, ◌&&◌, T, eqb, ltb, leb, ℤ, pos, negsuc, sym, refl, ap, ◌∙◌, subst, lt_of_le_of_lt, mul_assoc, zero-mul, mul-one, arith, lit<, ltb→lt, leb→le, pow_pos, pow-add}
+use Rattle.std.proofs.Common.{◌≡◌, ℕ, zero, suc, ◌+◌, ◌-◌, ◌*◌, ◌%◌, ◌^◌, ◌<◌, ◌≤◌, Bool, true, false, ◌&&◌, T, eqb, ltb, leb, ℤ, pos, negsuc, sym, refl, ap, ◌∙◌, subst, lt_of_le_of_lt, mul_assoc, zero-mul, mul-one, arith, lit<, ltb→lt, leb→le, pow_pos, pow-add}
 use native.Mathlib.Nat.{eq_of_mul-eq-mul_right}
 use lib.Ieee.{Float, nan, inf, fin, binary32, up, down, fits}
 use lib.Ieee.Fits.{and_l, and_r, down_pos}
 use lib.Ieee.Exact.{HasValue}
+use lib.Ieee.Positive.{positive, value_pos}
 use Rattle.decimal.proofs.Law.{pow-back}
 
 -- m * 2 ^ j units, with m below 2 ^ 24: an f32 has no other sizes
@@ -54,3 +55,10 @@ pub on_grid : (x : Float) (s : Bool) (b : ℕ) → T (fits binary32 x) → HasVa
 on_grid nan s b f h = absurd h
 on_grid (inf t) s b f h = absurd h
 on_grid (fin t m e) s b f h = let o = own_units t m e f in subst Grid (eq_of_mul-eq-mul_right (down e) (down_pos e) o.0 b (sym o.1.1 ∙ h.1)) o.2
+
+-- above zero
+pub in_units : (x : Float) → T (fits binary32 x) → T (positive x) → (b : ℕ) × HasValue x false b (2 ^ 149) × Grid b × (0 < b)
+in_units nan f p = absurd p
+in_units (inf s) f p = absurd p
+in_units (fin true m e) f p = absurd p
+in_units (fin false m e) f p = let o = own_units false m e f in (o.0, o.1, o.2, value_pos (fin false m e) o.0 (2 ^ 149) p (pow_pos 149) o.1)

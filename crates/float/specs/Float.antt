@@ -55,9 +55,6 @@ scaled_to places most nan = 0
 scaled_to places most (inf s) = most
 scaled_to places most (fin s m e) = min (num (fin s m e) * 2 ^ places / den (fin s m e)) most
 
-abbrev pub halves : Float → ℕ
-halves x = scaled_to 1 (2 ^ 32) x
-
 -- the size of a finite x to the nearest whole number, a half going up
 abbrev pub round_size : Float → ℕ
 round_size x = (2 * num x + den x) / (2 * den x)

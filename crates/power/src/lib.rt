@@ -1,59 +1,30 @@
 // x to the power a, for 0 <= x <= 1: the whole part of a by repeated multiplication, and eight binary digits of its fraction by repeated square roots.
 #![tactic(auto)]
 
-ghost use Rattle.std.specs.Prelude.{◌≡◌, ◌/◌, ◌%◌, ◌^◌, ◌<◌, ◌≤◌, T};
+ghost use Rattle.std.specs.Prelude.{◌≡◌, ◌/◌, T};
 ghost use Rattle.std.specs.Float.Ieee as Ieee;
 ghost use Rattle.float.specs.Float.{zero, one};
-ghost use Rattle.root.specs.Inner.{Digits, part};
-ghost use Rattle.power.specs.Power.{times, if_one, roots, steps, power256, power_up, power};
+ghost use Rattle.power.specs.Power.{times, roots, steps, power256, power_up, power};
 
 // 256 times a, cut down to a whole number, at most 64 * 256.
 fn in_256ths(a: f32) -> u32
     requires { T (Ieee.lt zero a) }
     ensures { result ≡ steps a }
 {
-    if a < 64.0 { float::scaled(a, 8) } else { 16384 }
+    if a < 64.0 {
+        std::num::saturating_f32_to_u32(a * 256.0)
+    } else {
+        16384
+    }
 }
 
 // x multiplied n times over.
 fn whole(x: f32, n: u32) -> f32
     ensures { result ≡ times n x one }
 {
-    let mut p: f32 = 1.0;
-    let mut i = n;
-    while i > 0 {
-        p = p * x;
-        i -= 1;
-    }
-    p
-}
-
-// p, multiplied by y if v has a 1 at the digit d.
-fn times_digit(p: f32, y: f32, v: u32, d: u32) -> f32
-    requires { d < 8 }
-    ensures { result ≡ if_one (v / 2 ^ d % 2) y p }
-{
-    if (v >> d) % 2 == 1 { p * y } else { p }
-}
-
-// p with v's d lowest binary digits, starting from the f32 whose digits are m, two roots a turn.
-fn near_one(m: u64, v: u32, d: u32, whole: f32) -> f32
-    requires { Digits m × (d ≤ 8) }
-    ensures { result ≡ roots d v (part m) whole }
-{
-    let mut p = whole;
-    let mut r = m;
-    let mut i = d;
-    while v % (1 << i) > 0 {
-        let g = root::first_root(r);
-        i -= 1;
-        r = g.digits;
-        p = times_digit(p, root::of_digits(r), v, i);
-        if v % (1 << i) > 0 {
-            i -= 1;
-            r = root::root_digits(r, g.next);
-            p = times_digit(p, root::of_digits(r), v, i);
-        }
+    let mut p = 1.0;
+    for _ in 0..n {
+        p *= x;
     }
     p
 }
@@ -64,15 +35,14 @@ fn fraction(x: f32, v: u32, whole: f32) -> f32
 {
     let mut p = whole;
     let mut r = x;
-    let mut d: u32 = 8;
-    while v % (1 << d) > 0 {
-        let m = root::digits_of(r);
-        if m > 0 {
-            return near_one(m, v, d, p);
+    for digit in (0..8u32).rev() {
+        if v % (2 << digit) == 0 {
+            break;
         }
-        d -= 1;
         r = root::sqrt_f32(r);
-        p = times_digit(p, r, v, d);
+        if (v >> digit) % 2 == 1 {
+            p *= r;
+        }
     }
     p
 }

@@ -1,11 +1,6 @@
-use Rattle.float.proofs.Words.{low-is, high_fits, high_is}
+use Rattle.std.proofs.Common.{◌∙◌, to_z-of_z, w32}
+use Rattle.float.proofs.Words.{signed_is}
 use Rattle.float.proofs.of_word.Goals as goal
 
-pub overflow_sub-result-else-n-lt2147483648 : goal.overflow_sub-result-else-n-lt2147483648
-overflow_sub-result-else-n-lt2147483648 c = high_fits c.args.n c.if-n-lt2147483648.false c.ranges.n.fits
-
-pub returns-then-n-lt2147483648 : goal.returns-then-n-lt2147483648
-returns-then-n-lt2147483648 c = low-is c.args.n c.if-n-lt2147483648.true
-
-pub returns-else-n-lt2147483648 : goal.returns-else-n-lt2147483648
-returns-else-n-lt2147483648 c = high_is c.args.n c.if-n-lt2147483648.false c.ranges.n.fits
+pub returns : goal.returns
+returns c = to_z-of_z {w = w32} (record { sfits = c.cast_signed.type_inv }) ∙ c.cast_signed.ensures ∙ signed_is c.args.n

@@ -1,16 +1,7 @@
-use Rattle.std.proofs.Common.{ℕ, ◌+◌, ◌/◌, min, ap, ◌∙◌}
-use Rattle.float.proofs.Sign.{is-above, not-above}
-use Rattle.float.proofs.Law.{round_byte-above, round_byte-low}
+use Rattle.std.proofs.Common.{T, sym, subst, ◌∙◌, ap}
+use lib.Ieee.{to_unsigned}
+use Rattle.float.proofs.Round.{rounded}
 use Rattle.float.proofs.round_byte.Goals as goal
 
-pub halves-requires : goal.halves-requires
-halves-requires c = is-above c.args.x c.if-x.true
-
-pub returns-then-x : goal.returns-then-x
-returns-then-x c =
-    let s = c.before.before in
-    let x = s.args.x in
-    c.least.ensures ∙ ap (λ (h : ℕ). min ((h + 1) / 2) 255) c.halves.ensures.0 ∙ round_byte-above x (is-above x s.if-x.true)
-
-pub returns-else-x : goal.returns-else-x
-returns-else-x c = let x = c.args.x in round_byte-low x (not-above x c.if-x.false)
+pub returns : goal.returns
+returns c = c.saturating_f32_to_u8.ensures ∙ ap (to_unsigned 8) c.round.ensures ∙ (rounded c.args.x (subst T (sym c.well_formed.0.1) tt)).1

@@ -1,20 +1,15 @@
-use mathlib.Core.Path.{refl, sym, ◌∙◌}
-use native.Mathlib.Omega.{arith}
-use lib.Dec.{lit≤}
+use Rattle.std.proofs.Common.{T, sym, subst, ◌∙◌}
 use lib.Ieee.{of_bits}
-use Rattle.float.proofs.Law.{low-scaled, high-scaled}
+use Rattle.power.proofs.Steps.{low, high, product}
 use Rattle.power.proofs.in_256ths.Goals as goal
-
-pub scaled-requires : goal.scaled-requires
-unfolding of_bits
-scaled-requires c =
-    let low = low-scaled 1 6 8 16384 refl c.args.a c.requires c.if-a.true in
-    (low.0, lit≤ tt, omega (arith, low.1))
 
 pub returns-then-a : goal.returns-then-a
 unfolding of_bits
-returns-then-a c = c.scaled.ensures ∙ sym (low-scaled 1 6 8 16384 refl c.args.a c.requires c.if-a.true).2
+returns-then-a c =
+    let a = c.args.a in
+    let l = low a c.requires c.if-a.true in
+    c.saturating_f32_to_u32.ensures ∙ product a (subst T (sym c.well_formed.0.1) tt) l.0 l.1
 
 pub returns-else-a : goal.returns-else-a
 unfolding of_bits
-returns-else-a c = high-scaled 1 6 8 16384 refl c.args.a c.requires c.if-a.false
+returns-else-a c = high c.args.a c.requires c.if-a.false

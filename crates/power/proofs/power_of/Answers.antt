@@ -2,8 +2,7 @@ use mathlib.Core.Path.{sym, ap, ◌∙◌}
 use mathlib.Core.Bool.{Bool, false, cond}
 use lib.Ieee.{Float, binary32, div, lt, neg, of_bits}
 use Rattle.float.specs.Float.{zero, one}
-use Rattle.float.proofs.Sign.{is-above, is_below}
-use Rattle.float.proofs.Law.{flipped}
+use Rattle.float.proofs.Sign.{is-above, is_below, flipped}
 use Rattle.power.specs.Power.{power_up, power}
 use Rattle.power.proofs.power_of.Goals as goal
 
