@@ -1,33 +1,32 @@
 -- What the inner functions say, in the code's words: nothing here is a promise to a caller.
-use Rattle.std.specs.Prelude.{◌≡◌, List, [], ◌∷◌, ℕ, ◌+◌, ◌*◌, ◌≤◌, ◌<◌, eqb, length}
-use Rattle.scan.specs.Scan.{pick, lower}
-use Rattle.refusal.specs.declared.Checked.TheVariants.{Good}
+use Rattle.std.specs.Prelude.{◌≡◌, List, [], ◌∷◌, ℕ, ◌+◌, ◌*◌, ◌≤◌, ◌<◌, eqb, length, Option, Some, None, Ok}
+use Rattle.scan.specs.Scan.{pick, lower, trim_start}
 use Rattle.survey.specs.Survey.{Unplain}
 use Rattle.tokens.specs.declared.Token.{Token}
 use Rattle.tokens.specs.declared.Token.TheVariants.{Letter, Number, Refused, Other}
-use Rattle.tokens.specs.declared.Next.{Next}
-use Rattle.tokens.specs.declared.Next.TheVariants.{End, Is}
-use Rattle.tokens.specs.Tokens.{from, until_letter, tokens_ground}
+use Rattle.tokens.specs.Tokens.{token_end, from, until_letter, tokens_ground}
 
--- a token and the place behind it as the tokens from i on
-abbrev pub listed : List ℕ → Next → List Token
-listed s End = []
-listed s (Is t k) = t ∷ from s k
+-- `next_word`: the next token from i on begins at a and ends at b
+pub record WordAt (s : List ℕ) (i a b : ℕ) : Type 0 where
+  pub start : a ≡ trim_start s i (length s)
+  pub within : a < length s
+  pub end : b ≡ token_end s (a + 1)
+  pub high : b ≤ length s
 
-abbrev pub Behind : ℕ → ℕ → Next → Type 0
-Behind i e End = Unit
-Behind i e (Is t k) = (i < k) × (k ≤ e)
-
--- `next_token` from i on
-pub record Follows (s : List ℕ) (i : ℕ) (r : Next) : Type 0 where
-  pub is : from s i ≡ listed s r
-  pub place : Behind i (length s) r
+abbrev pub IsWord : List ℕ → ℕ → Option (ℕ × ℕ) → Type 0
+IsWord s i None = length s ≤ trim_start s i (length s)
+IsWord s i (Some p) = WordAt s i p.0 p.1
 
 -- the first token from i on is t, and it ends at j
 pub record NextIs (s : List ℕ) (i : ℕ) (t : Token) (j : ℕ) : Type 0 where
   pub is : from s i ≡ t ∷ from s j
   pub low : i < j
   pub high : j ≤ length s
+
+-- `next_token` from i on
+abbrev pub Follows : List ℕ → ℕ → Option (Token × ℕ) → Type 0
+Follows s i None = from s i ≡ []
+Follows s i (Some p) = NextIs s i p.0 p.1
 
 -- `skip_tail` from i on
 pub record Skips (s : List ℕ) (i r : ℕ) : Type 0 where
@@ -56,8 +55,8 @@ weight r (Other ∷ ts) = weight r ts + r
 -- the tokens from i on weigh, with w, at most so much, and if the text is plain none is refused
 pub record Light (s : List ℕ) (i r w most : ℕ) : Type 0 where
   pub few : w + weight r (from s i) ≤ most
-  pub good : (Unplain s (length s) 0 (length s) → ⊥) → tokens_ground (from s i) ≡ Good
+  pub good : (Unplain s (length s) 0 (length s) → ⊥) → tokens_ground (from s i) ≡ Ok tt
 
 pub record Straight (s : List ℕ) (places : ℕ) : Type 0 where
   pub few : weight 3 (from s 0) ≤ 6 * places
-  pub good : tokens_ground (from s 0) ≡ Good
+  pub good : tokens_ground (from s 0) ≡ Ok tt

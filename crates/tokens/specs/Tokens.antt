@@ -1,10 +1,8 @@
 -- The tokens of a drawing: what stands between 01's blanks.
-use Rattle.std.specs.Prelude.{List, [], ◌∷◌, Bool, true, false, ℕ, zero, suc, ◌+◌, ◌-◌, ltb, eqb, length, get_or}
-use Rattle.scan.specs.Scan.{pick, lower, in_class, blank_at, past, trim_start}
-use Rattle.scan.specs.declared.Class.TheVariants.{Letter as ALetter}
+use Rattle.std.specs.Prelude.{List, [], ◌∷◌, Bool, true, false, ℕ, zero, suc, ◌+◌, ◌-◌, ltb, eqb, length, get_or, Ok, Err}
+use Rattle.scan.specs.Scan.{pick, lower, letter, blank_at, past, trim_start}
 use Rattle.numeral.specs.Numeral.{is_sign, F32, none, too_long_lem, number, f32_at}
-use Rattle.refusal.specs.declared.Checked.{Checked}
-use Rattle.refusal.specs.declared.Checked.TheVariants.{Good, Bad}
+use Rattle.refusal.specs.Refusal.{Checked}
 use Rattle.refusal.specs.declared.Refusal.TheVariants.{NumeralTooLong}
 use Rattle.tokens.specs.declared.Token.{Token}
 use Rattle.tokens.specs.declared.Token.TheVariants.{Letter, Number, Refused, Other}
@@ -33,7 +31,7 @@ special s a b =
 
 -- Rust's "a command character is a single ASCII letter token"
 abbrev pub one_letter : List ℕ → ℕ → ℕ → Bool
-one_letter s a b = pick (eqb b (a + 1)) (in_class ALetter (get_or s a 0)) false
+one_letter s a b = pick (eqb b (a + 1)) (letter (get_or s a 0)) false
 
 abbrev pub numeral_token : F32 → Token
 numeral_token none = Other
@@ -88,8 +86,8 @@ tail (t ∷ ts) =
 
 -- ground 3: "any token that is a numeral refused above", the earliest
 unfoldable pub tokens_ground : List Token → Checked
-tokens_ground [] = Good
+tokens_ground [] = Ok tt
 tokens_ground (Letter b ∷ ts) = tokens_ground ts
 tokens_ground (Number x ∷ ts) = tokens_ground ts
-tokens_ground (Refused p ∷ ts) = Bad (NumeralTooLong p)
+tokens_ground (Refused p ∷ ts) = Err (NumeralTooLong p)
 tokens_ground (Other ∷ ts) = tokens_ground ts
