@@ -2,3 +2,4 @@ pub mod Words
 pub mod Following
 pub mod Looking
 pub mod Places
+pub mod Spelling

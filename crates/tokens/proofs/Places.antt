@@ -10,10 +10,9 @@ use Rattle.scan.proofs.Laws.{picked}
 use Rattle.scan.proofs.Bounds.{tested, trim_end-high}
 use Rattle.numeral.specs.Numeral.{F32, none, too_long_lem, number, f32_at}
 use Rattle.survey.proofs.Long.{long-first}
-use Rattle.refusal.specs.Refusal.{place_of}
+use Rattle.std.specs.Prelude.{Ok, Err}
+use Rattle.refusal.specs.Refusal.{Checked, place_of}
 use Rattle.refusal.specs.declared.Refusal.{Refusal}
-use Rattle.refusal.specs.declared.Checked.{Checked}
-use Rattle.refusal.specs.declared.Checked.TheVariants.{Good, Bad}
 use Rattle.tokens.specs.declared.Token.{Token}
 use Rattle.tokens.specs.declared.Token.TheVariants.{Letter, Number, Refused, Other}
 use Rattle.tokens.specs.Tokens.{special, one_letter, numeral_token, token_of, word_end_lem, token_end, tokens, from, tokens_ground}
@@ -60,8 +59,8 @@ word_high s (suc n) i =
     picked (λ (j : ℕ). j ≤ i + suc n) (eqb (blank_at s i (length s)) 0) _ _ (omega arith) (omega arith)
 
 abbrev PlaceBefore : ℕ → Checked → Type 0
-PlaceBefore e Good = Unit
-PlaceBefore e (Bad r) = place_of r < e
+PlaceBefore e (Ok _) = Unit
+PlaceBefore e (Err r) = place_of r < e
 
 ground-more : (e : ℕ) (t : Token) (ts : List Token) → StartsBefore e t → PlaceBefore e (tokens_ground ts) → PlaceBefore e (tokens_ground (t ∷ ts))
 unfolding tokens_ground
@@ -82,7 +81,7 @@ ground-before s (suc n) i =
     (λ (h : e ≤ a). tt)
 
 -- ground 3: its place lies in the text
-pub place_inside : (s : List ℕ) (i : ℕ) (r : Refusal) → tokens_ground (from s i) ≡ Bad r → place_of r < length s
+pub place_inside : (s : List ℕ) (i : ℕ) (r : Refusal) → tokens_ground (from s i) ≡ Err r → place_of r < length s
 place_inside s i r e =
-    let h : PlaceBefore (length s) (Bad r) = rw e at (ground-before s (length s - i) i) in
+    let h : PlaceBefore (length s) (Err r) = rw e at (ground-before s (length s - i) i) in
     h

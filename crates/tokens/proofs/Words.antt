@@ -1,52 +1,25 @@
 -- One token after the other.
 use mathlib.Core.Path.{◌≡◌, refl, sym, ap, ◌∙◌}
 use mathlib.Core.List.{List, [], ◌∷◌}
-use mathlib.Core.Bool.{true, false}
+use mathlib.Core.Bool.{true}
 use Prim.Native.Nat.{ℕ, zero, suc, ◌+◌, ◌-◌, ◌≤◌, ◌<◌}
 use native.Mathlib.Omega.{arith}
 use native.Mathlib.Nat.{le_refl}
-use native.Mathlib.Numerals.{add-one}
 use lib.Dec.{eqb, ltb}
 use lib.Ieee.{Float, binary32, to_bits, of_bits}
-use lib.ListN.{length, get_or, drop}
-use lib.Seq.{drop-cons}
+use lib.ListN.{length, get_or}
 use borrow.Author.Tests.{eq-eqb, ne_eqb, lt-ltb, le-ltb, le-leb, lt-leb, ltb-true}
 use Rattle.scan.specs.Inner.{Passed}
-use Rattle.scan.specs.Scan.{lower, blank_at, trim_start, trim_end}
+use Rattle.scan.specs.Scan.{blank_at, trim_start, trim_end}
 use Rattle.scan.proofs.Laws.{picked, skip-low, blank_at-fits}
 use Rattle.numeral.specs.Numeral.{F32, none, too_long_lem, number, f32_at, word_of_f32}
-use Rattle.numeral.specs.declared.Numeral.TheVariants.{No, TooLong, Word}
+use Rattle.numeral.specs.declared.Numeral.TheVariants.{Word}
+use Rattle.std.specs.Prelude.{None}
 use Rattle.numeral.proofs.Reach.{number-in_reach}
-use Rattle.tokens.specs.declared.Token.TheVariants.{Number, Refused, Other}
-use Rattle.tokens.specs.Tokens.{spells, numeral_token, word_end_lem, token_end, token_of, tokens, from}
-
--- ---- spelling
-
-module _ (w s : List ℕ) (j i e : ℕ) where
-  pub spell_go : j < length w → i < e → lower (get_or s i 0) ≡ get_or w j 0 → spells (drop j w) s i e ≡ spells (drop (j + 1) w) s (i + 1) e
-  unfolding spells
-  spell_go h l q = rw (drop-cons w j 0 h, lt-ltb i e l, eq-eqb (lower (get_or s i 0)) (get_or w j 0) q, add-one j)
-
-  pub spell_short : j < length w → e ≤ i → spells (drop j w) s i e ≡ false
-  unfolding spells
-  spell_short h l = rw (drop-cons w j 0 h, le-ltb i e l)
-
-  pub spell_other : j < length w → i < e → ¬ (lower (get_or s i 0) ≡ get_or w j 0) → spells (drop j w) s i e ≡ false
-  unfolding spells
-  spell_other h l q = rw (drop-cons w j 0 h, lt-ltb i e l, ne_eqb (lower (get_or s i 0)) (get_or w j 0) q)
-
-  pub spell_end : length w ≤ j → spells (drop j w) s i e ≡ eqb i e
-  unfolding spells
-  spell_end h = rw (drop_all w j h)
-    where
-      drop_all : (w : List ℕ) (j : ℕ) → length w ≤ j → drop j w ≡ []
-      drop_all [] j h = drop_nil j
-        where
-          drop_nil : (j : ℕ) → drop {A = ℕ} j [] ≡ []
-          drop_nil zero = refl
-          drop_nil (suc j) = refl
-      drop_all (x ∷ w) zero h = absurd (omega arith)
-      drop_all (x ∷ w) (suc j) h = drop_all w j (omega arith)
+use Rattle.tokens.specs.declared.Token.{Token}
+use Rattle.tokens.specs.declared.Token.TheVariants.{Number}
+use Rattle.tokens.specs.Inner.{WordAt, IsWord, NextIs}
+use Rattle.tokens.specs.Tokens.{numeral_token, word_end_lem, token_end, token_of, tokens, from}
 
 -- ---- where a token ends
 
@@ -154,20 +127,9 @@ module _ (s : List ℕ) (a b : ℕ) where
           let z : w ≡ to_bits binary32 y = cc in
           rw (q, z, (number-in_reach s (trim_start s a b) (trim_end s (trim_start s a b) b) y r).back)
 
-  pub token_long : (p : ℕ) → TooLong p ≡ word_of_f32 (f32_at s a b) → Refused p ≡ numeral_token (f32_at s a b)
-  token_long p e = go (f32_at s a b) e
-    where
-      go : (f : F32) → TooLong p ≡ word_of_f32 f → Refused p ≡ numeral_token f
-      go none e = absurd (let z : ◌≡◌ {A = ℕ} 0 1 = cc in omega arith)
-      go (too_long_lem q) e =
-          let z : p ≡ q = cc in
-          rw z
-      go (number y) e = absurd (let z : ◌≡◌ {A = ℕ} 0 1 = cc in omega arith)
+-- the token at the next word
+pub word_none : (s : List ℕ) (i : ℕ) → IsWord s i None → from s i ≡ []
+word_none s i w = from_end s i (trim_start s i (length s)) refl w
 
-  pub token_other : No ≡ word_of_f32 (f32_at s a b) → Other ≡ numeral_token (f32_at s a b)
-  token_other e = go (f32_at s a b) e
-    where
-      go : (f : F32) → No ≡ word_of_f32 f → Other ≡ numeral_token f
-      go none e = refl
-      go (too_long_lem q) e = absurd (let z : ◌≡◌ {A = ℕ} 0 1 = cc in omega arith)
-      go (number y) e = absurd (let z : ◌≡◌ {A = ℕ} 0 1 = cc in omega arith)
+pub word_next : {s : List ℕ} {i a b : ℕ} {t : Token} → WordAt s i a b → t ≡ token_of s a b → NextIs s i t b
+word_next {s} {i} {a} {b} {t} w e = record { is = rw e (from_more s i a b w.start (omega (arith, w.wide, w.high)) w.end); low = omega (arith, w.low, w.wide); high = w.high }

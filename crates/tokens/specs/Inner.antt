@@ -9,8 +9,9 @@ use Rattle.tokens.specs.Tokens.{token_end, from, until_letter, tokens_ground}
 -- `next_word`: the next token from i on begins at a and ends at b
 pub record WordAt (s : List ℕ) (i a b : ℕ) : Type 0 where
   pub start : a ≡ trim_start s i (length s)
-  pub within : a < length s
   pub end : b ≡ token_end s (a + 1)
+  pub low : i ≤ a
+  pub wide : a < b
   pub high : b ≤ length s
 
 abbrev pub IsWord : List ℕ → ℕ → Option (ℕ × ℕ) → Type 0

@@ -1,12 +1,14 @@
 // The tokens of a drawing's text: what stands between its blanks.
 #![tactic(auto)]
 
-ghost use Rattle.std.specs.Prelude.{◌≡◌, true, ◌≤◌, ◌<◌, length};
-ghost use Rattle.tokens.specs.Tokens.{special as special_at, one_letter, token_of, token_end, is_letter, from as tokens_from, tail, tokens_ground};
+ghost use Rattle.std.specs.Prelude.{◌≡◌, true, ◌≤◌, ◌<◌, length, map};
+ghost use Rattle.std.specs.Char.{to_ascii_lowercase};
+ghost use Rattle.tokens.specs.Tokens.{spells as spells_at, special as special_at, one_letter, token_of, token_end, is_letter, from as tokens_from, tail, tokens_ground};
 ghost use Rattle.tokens.specs.Inner.{Follows, Skips, IsWord, rate_of, letter_weight, Light, Straight};
 
 use numeral::Numeral;
 use refusal::Refusal;
+use scan::Class;
 
 // A token: a single ASCII letter, a number, a numeral that is refused with the place of its first byte, or anything else.
 #[derive(Clone, Copy, Drop)]
@@ -17,16 +19,22 @@ pub enum Token {
     Other,
 }
 
+// Whether the text between two places is the word, in any letter case.
+fn spells(text: &[u8], i: usize, e: usize, word: &[u8]) -> bool
+    requires { (i ≤ e) × (e ≤ length text.now) }
+    ensures { result ≡ spells_at (map to_ascii_lowercase word.now) text.now i e }
+{
+    text[i..e].eq_ignore_ascii_case(word)
+}
+
 // Whether a token is inf, infinity or nan, in any letter case, with or without a sign.
+#[tactic(auto, unfolding(crate::specs::Tokens::special))]
 fn special(text: &[u8], a: usize, b: usize) -> bool
     requires { (a ≤ b) × (b ≤ length text.now) }
     ensures { result ≡ special_at text.now a b }
 {
     let i = scan::past(text, scan::Either(b'+', b'-'), a, b);
-    let word = &text[i..b];
-    word.eq_ignore_ascii_case(b"inf")
-        || word.eq_ignore_ascii_case(b"infinity")
-        || word.eq_ignore_ascii_case(b"nan")
+    spells(text, i, b, b"inf") || spells(text, i, b, b"infinity") || spells(text, i, b, b"nan")
 }
 
 // Whether the text between two places is a single ASCII letter.
@@ -38,6 +46,7 @@ fn one_letter(text: &[u8], a: usize, b: usize) -> bool
 }
 
 // The token between two places.
+#[tactic(auto, unfolding(crate::specs::Tokens::token_of))]
 fn token_of(text: &[u8], a: usize, b: usize) -> Token
     requires { (a < b) × (b ≤ length text.now) }
     ensures { result ≡ token_of text.now a b }
@@ -113,7 +122,7 @@ pub fn tail_ground(text: &[u8], i: usize) -> Result<(), Refusal>
         match t {
             Token::Letter(_) => return Ok(()),
             Token::Refused(p) => return Err(Refusal::NumeralTooLong(p)),
-            Token::Number(_) | Token::Other => at = k,
+            _ => at = k,
         }
     }
     Ok(())

@@ -1,9 +1,11 @@
-use Rattle.tokens.proofs.Words.{from_end, from_more}
-use borrow.Author.Rules.{rules}
+use Rattle.tokens.proofs.Words.{word_none, word_next}
 use Rattle.tokens.proofs.next_token.Goals as goal
 
-pub returns-then-a-text : goal.returns-then-a-text
-returns-then-a-text c = record { is = from_end _ _ _ c.trim_start-a.ensures.is c.if-a-text.true; place = tt }
+pub returns-in_err-a : goal.returns-in_err-a
+returns-in_err-a c = rw c.from_residual.ensures (word_none _ _ c.in_err-a.ensures)
+
+pub token_of-requires : goal.token_of-requires
+token_of-requires c = let w = c.in_ok-a.ensures in (w.wide, w.high)
 
 pub returns : goal.returns
-returns c = record { is = rw c.token_of.ensures (from_more _ _ _ _ c.trim_start-a.ensures.is c.if-a-text.false c.token_end-b.ensures.0); place = (search rules, search rules) }
+returns c = word_next c.in_ok-a.ensures c.token_of.ensures
