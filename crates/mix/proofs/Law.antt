@@ -1,50 +1,31 @@
--- The laws that the functions of the factor stand on.
-use mathlib.Core.Path.{◌≡◌, refl, ap, ◌∙◌}
-use mathlib.Core.Bool.{Bool, true, false}
-use lib.Ieee.{Float, nan, inf, fin, lt}
-use lib.IntN.{ℤ}
-use Rattle.tag.specs.Tag.{Times}
+-- std's tests of a float, in the words of the factor.
+use mathlib.Core.Path.{◌≡◌, refl}
+use mathlib.Core.Bool.{true, false}
+use Prim.Native.Nat.{ℕ, ◌+◌}
+use native.Mathlib.Omega.{arith}
+use lib.Dec.{ltb}
+use lib.Ieee.{Float, nan, inf, fin, lt, neg, of_bits}
+use Rattle.std.proofs.lemmas.Bool.Decides.{nat_tests}
+use Rattle.std.specs.Float.{float_is_finite, float_with_sign}
 use Rattle.scan.specs.Scan.{pick}
-use Rattle.state.specs.declared.Pair.{Pair}
-use Rattle.state.specs.declared.OptPair.{OptPair}
-use Rattle.state.specs.Mix.{start_of, end_of, advance, finite, accel_of, bent, held, factor, pair_or, same_pair}
+use Rattle.state.specs.Mix.{finite, epsilon, near_zero}
 
--- a finite float lies between the infinities
-pub finite-is : (x : Float) → lt (inf true) x ≡ true → lt x (inf false) ≡ finite x
-unfolding lt
-finite-is nan h = refl
-finite-is (inf true) h = let z : ◌≡◌ {A = Bool} false true = h in cc
-finite-is (inf false) h = refl
-finite-is (fin s m e) h = refl
+pub finite_is : (x : Float) → float_is_finite x ≡ finite x
+unfolding float_is_finite
+finite_is nan = refl
+finite_is (inf s) = refl
+finite_is (fin s m e) = refl
 
-pub not_finite : (x : Float) → lt (inf true) x ≡ false → false ≡ finite x
-unfolding lt
-not_finite nan h = refl
-not_finite (inf s) h = refl
-not_finite (fin s m e) h = let z : ◌≡◌ {A = Bool} true false = h in cc
+over : (a b : ℕ) → ltb a b ≡ pick (ltb 0 (b + a)) (ltb a b) false
+over a b = grind (arith, nat_tests)
 
--- `factor`, step by step
-pub factor-is : (x : Times) (accel : Float) (t dur : ℤ) (raw a k v : Float) →
-    raw ≡ advance (start_of x) (end_of x dur) t → a ≡ accel_of accel → k ≡ bent raw a → v ≡ held raw k → v ≡ factor x accel t dur
-unfolding factor
-factor-is x accel t dur raw a k v p q r s = rw (s, r, q, p)
+under : (a b : ℕ) → ltb a b ≡ pick (ltb a b) (ltb 0 (a + b)) false
+under a b = grind (arith, nat_tests)
 
--- the pivot that stays, by that behind
-
-pub kept-none : (a : OptPair) → OptPair.None ≡ pick (same_pair a OptPair.None) a OptPair.None
-unfolding same_pair
-kept-none OptPair.None = refl
-kept-none (OptPair.Some p) = refl
-
-pub kept-some : (a : OptPair) (q r : Pair) → r ≡ pick (same_pair (OptPair.Some (pair_or a q)) (OptPair.Some q)) (pair_or a q) q → OptPair.Some r ≡ pick (same_pair a (OptPair.Some q)) a (OptPair.Some q)
-unfolding same_pair
-kept-some OptPair.None q r h = ap OptPair.Some (h ∙ either (same_pair (OptPair.Some q) (OptPair.Some q)))
-  where
-    either : (b : Bool) → pick b q q ≡ q
-    either true = refl
-    either false = refl
-kept-some (OptPair.Some p) q r h = ap OptPair.Some h ∙ inside (same_pair (OptPair.Some p) (OptPair.Some q))
-  where
-    inside : (b : Bool) → OptPair.Some (pick b p q) ≡ pick b (OptPair.Some p) (OptPair.Some q)
-    inside true = refl
-    inside false = refl
+pub near_is : (a : Float) → lt (float_with_sign false a) epsilon ≡ near_zero a
+unfolding lt neg of_bits float_with_sign near_zero
+near_is nan = refl
+near_is (inf true) = refl
+near_is (inf false) = refl
+near_is (fin false m e) = over _ _
+near_is (fin true m e) = under _ _

@@ -1,9 +1,7 @@
 use lib.Ieee.{of_bits}
+use Rattle.mix.proofs.Law.{finite_is}
 use Rattle.mix.proofs.accel_of.Goals as goal
 
-pub returns-then-finite : goal.returns-then-finite
-returns-then-finite c = rw (← c.finite.ensures, c.if-finite.true)
-
-pub returns-else-finite : goal.returns-else-finite
+pub returns-else-is_finite : goal.returns-else-is_finite
 unfolding of_bits
-returns-else-finite c = rw (← c.finite.ensures, c.if-finite.false)
+returns-else-is_finite c = rw (← finite_is c.args.a, ← c.is_finite.ensures.value, c.if-is_finite.false)
