@@ -1,5 +1,5 @@
 -- Laws of a first look.
-use mathlib.Core.Path.{◌≡◌}
+use mathlib.Core.Path.{◌≡◌, refl}
 use mathlib.Core.List.{List}
 use mathlib.Core.Bool.{Bool, true, false}
 use mathlib.Core.Logic.{⊎_elim}
@@ -7,7 +7,10 @@ use Prim.Native.Nat.{ℕ, zero, suc, ◌+◌, ◌-◌, ◌≤◌, ◌<◌}
 use native.Mathlib.Omega.{arith}
 use native.Mathlib.Nat.{zero-add, le_refl, le_trans}
 use lib.Dec.{eqb}
-use lib.ListN.{get_or}
+use lib.ListN.{get_or, length, take, drop}
+use Rattle.std.specs.Prelude.{count_by, cond}
+use Rattle.std.proofs.Common.{drop-cons, add-one}
+use Rattle.std.proofs.lemmas.List.Sums.{sum_by-cons}
 use borrow.Author.Tests.{eq-eqb, ne_eqb}
 use Rattle.scan.proofs.Laws.{more, none, le_or_lt, picked, span-low, passed-span}
 use Rattle.scan.specs.Scan.{pick, span_to, back, back_to}
@@ -28,6 +31,17 @@ module _ (s : List ℕ) (i e : ℕ) where
   pub slashes-none : i < e → ¬ (get_or s i 0 ≡ 92) → slashes_to s i e ≡ slashes_to s (i + 1) e
   unfolding slashes
   slashes-none h q = rw (more i e h, ne_eqb (get_or s i 0) 92 q)
+
+pub slashes-counted : (s : List ℕ) (n i : ℕ) → i + n ≤ length s → count_by (λ b. eqb b 92) (take n (drop i s)) ≡ slashes s n i
+unfolding slashes
+slashes-counted s zero i h = refl
+slashes-counted s (suc n) i h =
+    let lt : i < length s = omega arith in
+    rw (drop-cons s i 0, ← add-one i, sum_by-cons (λ b. cond (eqb b 92) 1 0)) (go (eqb (get_or s i 0) 92) _ _ (slashes-counted s n (i + 1) (omega arith)))
+  where
+    go : (b : Bool) (a c : ℕ) → a ≡ c → cond b 1 0 + a ≡ pick b (c + 1) c
+    go true a c h = omega arith
+    go false a c h = omega arith
 
 -- ---- runs of digits
 
@@ -54,6 +68,13 @@ ten-around s i k e j a b c h t f =
     let q = passed-span is_digit s k e (j + 10) (record { low = omega arith; high = h; all = λ m u v. t m (omega arith) v }) in
     let r : j + 10 ≤ span_to is_digit s k e = rw q (span-low is_digit s (e - (j + 10)) (j + 10)) in
     omega arith
+
+-- one place in ten looked at, after those before k
+pub ten_more : (s : List ℕ) (i k e : ℕ) → i + 9 ≤ k → (is_digit (get_or s k 0) ≡ true → span_to is_digit s k e - back_to is_digit s i k ≤ 9)
+    → ((j : ℕ) → i ≤ j → j + 9 < k → j + 10 ≤ e → Ten s j → ⊥)
+    → (j : ℕ) → i ≤ j → j < k + 1 → j + 10 ≤ e → Ten s j → ⊥
+ten_more s i k e l look before j a b d t =
+    ⊎_elim (λ (h : k ≤ j + 9). ten-around s i k e j a (omega arith) (omega arith) d t (look (t k (omega arith) (omega arith)))) (λ (h : j + 9 < k). before j a h d t) (le_or_lt k (j + 9))
 
 -- ---- the whole look
 

@@ -6,17 +6,14 @@ ghost use Rattle.scan.specs.Scan.{span_to, back_to};
 ghost use Rattle.numeral.specs.Numeral.{is_digit};
 ghost use Rattle.survey.specs.Survey.{slashes_to, is_exponent, is_stop, ends_field, Ten, Exponent, Unplain, Straight};
 
+use scan::Class;
+
 // Whether the byte b is an e and a, before it, a digit or a point.
+#[tactic(auto, unfolding(crate::specs::Survey::is_exponent))]
 fn is_exponent(a: u8, b: u8) -> bool
     ensures { result ≡ is_exponent a b }
 {
-    if scan::has(scan::Either(69, 101), b) {
-        if a == 46 {
-            return true;
-        }
-        return scan::has(scan::Digit(10), a);
-    }
-    false
+    scan::Either(b'E', b'e').has(b) && (a == b'.' || scan::Digit(10).has(a))
 }
 
 // Whether a byte stands behind a field.
@@ -24,26 +21,18 @@ fn is_exponent(a: u8, b: u8) -> bool
 fn is_stop(b: u8) -> bool
     ensures { result ≡ is_stop b }
 {
-    if scan::is_blank(b) {
-        return true;
-    }
-    if b == 41 {
-        return true;
-    }
-    scan::has(scan::Either(44, 92), b)
+    scan::is_blank(b) || b == b')' || scan::Either(b',', b'\\').has(b)
 }
 
 // Whether the exponent whose e is at k goes on to the end of a field; in a colour as &H8E2F00& it does not.
+#[tactic(auto, unfolding(crate::specs::Survey::ends_field))]
 fn ends_field(text: &[u8], k: usize, to: usize) -> bool
     requires { (k < to) × (to ≤ length text.now) }
     ensures { result ≡ ends_field text.now k to }
 {
-    let d = scan::past(text, scan::Either(43, 45), k + 1, to);
+    let d = scan::past(text, scan::Either(b'+', b'-'), k + 1, to);
     let end = scan::span(text, scan::Digit(10), d, to);
-    if end < to {
-        return is_stop(text[end]);
-    }
-    true
+    end == to || is_stop(text[end])
 }
 
 // The number of backslashes between two places.
@@ -51,15 +40,7 @@ fn slashes(text: &[u8], from: usize, to: usize) -> usize
     requires { (from ≤ to) × (to ≤ length text.now) }
     ensures { result ≡ slashes_to text.now from to }
 {
-    let mut n = 0;
-    let mut i = from;
-    while i < to {
-        if text[i] == 92 {
-            n += 1;
-        }
-        i += 1;
-    }
-    n
+    text[from..to].iter().filter(|b| **b == b'\\').count()
 }
 
 // Whether no e behind a digit or a point begins an exponent that goes on to the end of a field.
@@ -67,17 +48,10 @@ fn harmless(text: &[u8], from: usize, to: usize) -> bool
     requires { (from ≤ to) × (to ≤ length text.now) }
     ensures { result ≡ true → (j : ℕ) → from ≤ j → j + 1 < to → Exponent text.now j → ends_field text.now (j + 1) to ≡ true → ⊥ }
 {
-    let mut i = from;
-    while to - i > 1 {
-        let a = text[i];
-        let k = i + 1;
-        let b = text[k];
-        if is_exponent(a, b) {
-            if ends_field(text, k, to) {
-                return false;
-            }
+    for k in from + 1..to {
+        if is_exponent(text[k - 1], text[k]) && ends_field(text, k, to) {
+            return false;
         }
-        i += 1;
     }
     true
 }
@@ -96,15 +70,10 @@ fn no_ten(text: &[u8], from: usize, to: usize) -> bool
     requires { (from ≤ to) × (to ≤ length text.now) }
     ensures { result ≡ true → (j : ℕ) → from ≤ j → j + 10 ≤ to → Ten text.now j → ⊥ }
 {
-    let mut i = from;
-    while to - i > 9 {
-        let k = i + 9;
-        if scan::has(scan::Digit(10), text[k]) {
-            if run_around(text, from, k, to) > 9 {
-                return false;
-            }
+    for k in (from + 9..to).step_by(10) {
+        if scan::Digit(10).has(text[k]) && run_around(text, from, k, to) > 9 {
+            return false;
         }
-        i += 10;
     }
     true
 }
@@ -114,10 +83,7 @@ fn few_slashes(text: &[u8], from: usize, to: usize, most: usize) -> bool
     requires { (from ≤ to) × (to ≤ length text.now) }
     ensures { result ≡ true → slashes_to text.now from to ≤ most }
 {
-    if to - from <= most {
-        return true;
-    }
-    slashes(text, from, to) <= most
+    to - from <= most || slashes(text, from, to) <= most
 }
 
 // Whether no numeral in a text can be too long and no number far: neither ground 3 nor 4 can stand against it.
@@ -125,10 +91,7 @@ pub fn plain(text: &[u8], from: usize, to: usize) -> bool
     requires { (from ≤ to) × (to ≤ length text.now) }
     ensures { result ≡ true → Unplain text.now to from to → ⊥ }
 {
-    if no_ten(text, from, to) {
-        return harmless(text, from, to);
-    }
-    false
+    no_ten(text, from, to) && harmless(text, from, to)
 }
 
 // Whether a block can be read straight into a table with so many places: ground 9 can't stand either.
@@ -136,8 +99,5 @@ pub fn straight(text: &[u8], from: usize, to: usize, places: usize) -> bool
     requires { (from ≤ to) × (to ≤ length text.now) }
     ensures { result ≡ true → Straight text.now from to places }
 {
-    if few_slashes(text, from, to, places) {
-        return plain(text, from, to);
-    }
-    false
+    few_slashes(text, from, to, places) && plain(text, from, to)
 }
