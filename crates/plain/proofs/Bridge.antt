@@ -10,20 +10,18 @@ use Rattle.scan.specs.Scan.{pick}
 use Rattle.scan.proofs.Laws.{picked}
 use Rattle.float.specs.Float.{zero as plus_zero, round_away, round_byte}
 use Rattle.numeral.specs.Numeral.{F32, too_long_lem, number, f32_at, i32_at, word_of_f32}
-use Rattle.numeral.specs.declared.Numeral.{Numeral}
-use Rattle.numeral.specs.declared.Numeral.TheVariants.{No, TooLong, Word}
+use Rattle.std.specs.Prelude.{Option, Some, None}
 use Rattle.lists.specs.Lists.{parts}
 use Rattle.lists.specs.declared.Numbers.{Numbers}
 use Rattle.colour.specs.Colour.{alpha_at, colour_at}
-use Rattle.colour.specs.declared.Colour as C
-use Rattle.colour.specs.declared.Colour.TheVariants.{Rgb}
+use Rattle.colour.specs.declared.Rgb as C
 use Rattle.tag.specs.Tag as Tag
 use Rattle.tag.specs.Tag.{AnimatedTag, Be, Pbo}
 use Rattle.tag.specs.declared.Record.{Record}
 use Rattle.tag.specs.Table.{rec, records, bits, one_float, two_floats, four_floats, one_number, part_record, rgb_record, flag_word, kind_word}
 use Rattle.plain.specs.declared.Kept.{Kept}
 use Rattle.plain.specs.Names.{Shape, float, pair, ranged, flag, alpha, colour, clip, beat, fad, fade, move, edge, baseline, weight, reset, unknown, names, lookup, key_at}
-use Rattle.plain.specs.Plain.{kept, part, map_f32, map_alpha, map_colour, or_zero, f32s, unless_long, clip_of, beat_of, nth, shaped, is_fn, is_named_reset, plain_at_lem}
+use Rattle.plain.specs.Plain.{kept, part, map_f32, map_alpha, map_colour, or_zero, f32s, unless_long, clip_of, beat_of, nth, shaped, is_fn, is_named_reset, plain_at}
 use Rattle.plain.specs.Inner.{kept_of, kind_of, code_of, keep_word, beat_word, edge_word, baseline_word, long_or, nth_word, alpha_tag, colour_tag, clip_tag, drawing_tag, numbers_at, shaped_tag}
 use Rattle.plain.proofs.Numbers.{Back, f32-back, i32_small}
 use Rattle.plain.proofs.Commas.{Floats, floats_read, floats-length, ints_read}
@@ -77,14 +75,13 @@ module _ (f : Float → AnimatedTag) (g : ℕ → Record) (h : (x : Float) → B
   gives-f32 (too_long_lem p) b = late p
   gives-f32 (number x) b = tag (h x b)
 
-gives-alpha : (f : ℕ → AnimatedTag) (k : ℕ) → ((n : ℕ) → records (f n) ≡ one_number k n ∷ []) → (y : Numeral) → Gives (alpha_tag k y) (map_alpha f y)
-gives-alpha f k h No = nothing
-gives-alpha f k h (TooLong p) = nothing
-gives-alpha f k h (Word n) = tag (h n)
+gives-alpha : (f : ℕ → AnimatedTag) (k : ℕ) → ((n : ℕ) → records (f n) ≡ one_number k n ∷ []) → (y : Option ℕ) → Gives (alpha_tag k y) (map_alpha f y)
+gives-alpha f k h None = nothing
+gives-alpha f k h (Some n) = tag (h n)
 
-gives-colour : (f : Tag.Rgb → AnimatedTag) (k : ℕ) → ((c : Tag.Rgb) → records (f c) ≡ rgb_record k c ∷ []) → (y : C.Colour) → Gives (colour_tag k y) (map_colour f y)
-gives-colour f k h C.Colour.No = nothing
-gives-colour f k h (Rgb r g b) = tag (h _)
+gives-colour : (f : Tag.Rgb → AnimatedTag) (k : ℕ) → ((c : Tag.Rgb) → records (f c) ≡ rgb_record k c ∷ []) → (y : Option C.Rgb) → Gives (colour_tag k y) (map_colour f y)
+gives-colour f k h None = nothing
+gives-colour f k h (Some c) = tag (h _)
 
 -- ---- \clip, \iclip
 
@@ -137,8 +134,8 @@ bridge k s p q = gives-kept (gives (lookup k names) (find Sound tt k names sound
 -- ---- a plain tag has one record
 
 module _ (s : List ℕ) (i m p q : ℕ) where
-  pub plain-single : Single (plain_at_lem s i m p q)
-  unfolding plain_at_lem records
+  pub plain-single : Single (plain_at s i m p q)
+  unfolding plain_at records
   plain-single =
       let k = key_at s i m in
       picked Single (is_fn s i m) _ _ refl (picked Single (is_named_reset s i m p q) _ _ refl (gives-single (gives (lookup k names) (find Sound tt k names sound) s p q)))

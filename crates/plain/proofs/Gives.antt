@@ -22,7 +22,7 @@ use Rattle.tag.proofs.Tags.{records_own}
 use Rattle.plain.specs.declared.Kept.{Kept}
 use Rattle.plain.specs.Plain.{One, no, long, kept, far, part, f32s, unless_long, pair_of, move_of, fad_of, fade_of, ranged_of, weight_of, flag_of, reset_of, int_of, nth_int, is_far}
 use Rattle.plain.specs.Inner.{kept_of, long_or, pair_tag, move_tag, fad_tag, fade_tag, ranged_tag, weight_tag, flag_tag, reset_tag}
-use Rattle.plain.proofs.Numbers.{Small, high, clip-word, byte_word, far-word}
+use Rattle.plain.proofs.Numbers.{Small, high, clip-word, byte-word, far-word}
 use Rattle.plain.proofs.Commas.{Floats, Ints}
 
 -- nothing, a numeral that is too long, a tag, a \fade whose times lie too far off
@@ -112,9 +112,9 @@ module _ (n : Numbers) where
         r.words 4 (lit< tt),
         r.words 5 (lit< tt),
         r.words 6 (lit< tt),
-        byte_word _ (r.fine 0),
-        byte_word _ (r.fine 1),
-        byte_word _ (r.fine 2),
+        byte-word _ (r.fine 0),
+        byte-word _ (r.fine 1),
+        byte-word _ (r.fine 2),
         far-word _ (r.fine 3),
         far-word _ (r.fine 4),
         far-word _ (r.fine 5),

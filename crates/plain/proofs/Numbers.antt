@@ -17,7 +17,7 @@ use Rattle.numeral.proofs.Reach.{number-in_reach}
 use Rattle.lists.specs.Inner.{word_of}
 use Rattle.tag.specs.Table.{bits}
 use Rattle.plain.specs.Plain.{or_zero, int_of, not_below_zero, byte_of, is_far}
-use Rattle.plain.specs.Inner.{not_below_zero_word, byte_word_lem, far_word}
+use Rattle.plain.specs.Inner.{not_below_zero_word, byte_word, far_word}
 
 -- ---- f32: the bits of what a text gives stand for it
 
@@ -87,8 +87,8 @@ pub clip-word : (z : ℤ) → Small z → not_below_zero_word (to_word z) ≡ no
 clip-word (pos n) h = rw (lt-ltb n 2147483648 h)
 clip-word (negsuc n) h = rw (le-ltb _ 2147483648 (high n h))
 
-pub byte_word : (z : ℤ) → Small z → byte_word_lem (to_word z) ≡ byte_of z
-byte_word z h = rw (clip-word z h)
+pub byte-word : (z : ℤ) → Small z → byte_word (to_word z) ≡ byte_of z
+byte-word z h = rw (clip-word z h)
 
 pub far-word : (z : ℤ) → Small z → far_word (to_word z) ≡ is_far z
 far-word (pos n) h =

@@ -1,6 +1,6 @@
 -- What the inner functions say, in the code's words: nothing here is a promise to a caller.
 -- The words of a plain tag's record, from the words of its numbers, proved to be the record of the tag (proofs/Bridge.antt).
-use Rattle.std.specs.Prelude.{List, Bool, true, false, ℕ, ◌+◌, ◌-◌, ◌^◌, min, leb, ltb, eqb, get_or}
+use Rattle.std.specs.Prelude.{◌≡◌, List, Option, Some, None, Bool, true, false, ℕ, ◌+◌, ◌-◌, ◌^◌, min, leb, ltb, eqb, get_or}
 use Rattle.std.specs.Float.{binary32}
 use Rattle.std.specs.Float.Ieee.{of_bits, to_signed}
 use Rattle.scan.specs.Scan.{pick, either, trim_start, trim_end}
@@ -13,8 +13,7 @@ use Rattle.lists.specs.declared.Found.{Found}
 use Rattle.lists.specs.declared.Found.TheVariants.{Nowhere, At}
 use Rattle.lists.specs.declared.Numbers.{Numbers}
 use Rattle.colour.specs.Colour.{alpha_at, colour_at}
-use Rattle.colour.specs.declared.Colour as C
-use Rattle.colour.specs.declared.Colour.TheVariants.{Rgb}
+use Rattle.colour.specs.declared.Rgb as C
 use Rattle.tag.specs.declared.Record.{Record}
 use Rattle.tag.specs.Tag as Tag
 use Rattle.tag.specs.Tag.{AnimatedTag}
@@ -22,7 +21,6 @@ use Rattle.tag.specs.Table.{rec, head, kind_word}
 use Rattle.plain.specs.declared.Shape as Code
 use Rattle.plain.specs.declared.Shape.TheVariants.{Float, Pair, Ranged, Flag, Alpha, Colour, Clip, Beat, Fad, Fade, Move, Edge, Baseline, Weight, Reset, Unknown}
 use Rattle.plain.specs.declared.Kept.{Kept}
-use Rattle.plain.specs.declared.PartWords.{PartWords}
 use Rattle.plain.specs.Names as Names
 use Rattle.plain.specs.Plain.{One, no, long, kept, far, part}
 
@@ -45,7 +43,7 @@ code_of (Names.flag f) = Flag (kind_of (f false))
 code_of (Names.alpha f) = Alpha (kind_of (f 0))
 code_of (Names.colour f) = Colour (kind_of (f (record { red = 0; green = 0; blue = 0 })))
 code_of (Names.clip f g) = Clip (kind_of (f plus_zero plus_zero plus_zero plus_zero)) (kind_of (g (record { offset = 0; size = 0 })))
-code_of (Names.beat k) = Beat (kind_word k)
+code_of (Names.beat k) = Beat k
 code_of Names.fad = Fad
 code_of Names.fade = Fade
 code_of Names.move = Move
@@ -59,6 +57,16 @@ abbrev pub keep_word : (ℕ → Record) → Numeral → Kept
 keep_word f No = Kept.No
 keep_word f (TooLong p) = Kept.Long p
 keep_word f (Word w) = Kept.Tag (f w)
+
+-- the same of a code's closure, that gives the record of a word
+abbrev pub KeepsWord : (ℕ → Record → Type 0) → Numeral → Kept → Type 0
+KeepsWord P No k = k ≡ Kept.No
+KeepsWord P (TooLong p) k = k ≡ Kept.Long p
+KeepsWord P (Word w) k = (r : Record) × P w r × (k ≡ Kept.Tag r)
+
+abbrev pub kept_record : Option Record → Kept
+kept_record (Some r) = Kept.Tag r
+kept_record None = Kept.No
 
 abbrev pub beat_word : ℕ → ℕ
 beat_word w = to_word (round_away (max_zero (of_bits binary32 w)))
@@ -92,8 +100,8 @@ move_tag all n w =
 abbrev pub not_below_zero_word : ℕ → ℕ
 not_below_zero_word w = pick (ltb w 2147483648) w 0
 
-abbrev pub byte_word_lem : ℕ → ℕ
-byte_word_lem w = min (not_below_zero_word w) 255
+abbrev pub byte_word : ℕ → ℕ
+byte_word w = min (not_below_zero_word w) 255
 
 -- a signed word beyond ±`reach`
 abbrev pub far_word : ℕ → Bool
@@ -104,7 +112,7 @@ fad_tag all n w = pick all (pick (leb 2 n) (Kept.Tag (rec 1 (not_below_zero_word
 
 unfoldable pub fade_tag : Bool → ℕ → List ℕ → Kept
 fade_tag all n w =
-    let x = rec 2 (byte_word_lem (nth_word w 0)) (byte_word_lem (nth_word w 1)) (byte_word_lem (nth_word w 2)) (nth_word w 3) (nth_word w 4) (nth_word w 5) (nth_word w 6) in
+    let x = rec 2 (byte_word (nth_word w 0)) (byte_word (nth_word w 1)) (byte_word (nth_word w 2)) (nth_word w 3) (nth_word w 4) (nth_word w 5) (nth_word w 6) in
     let f = either (far_word (nth_word w 3)) (either (far_word (nth_word w 4)) (either (far_word (nth_word w 5)) (far_word (nth_word w 6)))) in
     pick all (pick (leb 7 n) (pick f (Kept.Far x) (Kept.Tag x)) Kept.No) Kept.No
 
@@ -125,17 +133,16 @@ flag_tag k s p q =
     (pick (eqb (get_or s a 0) 48) (Kept.Tag (rec k 0 0 0 0 0 0 0)) (pick (eqb (get_or s a 0) 49) (Kept.Tag (rec k 1 0 0 0 0 0 0)) Kept.No))
     Kept.No
 
-abbrev pub alpha_tag : ℕ → Numeral → Kept
-alpha_tag k No = Kept.No
-alpha_tag k (TooLong p) = Kept.No
-alpha_tag k (Word w) = Kept.Tag (rec k w 0 0 0 0 0 0)
+abbrev pub alpha_tag : ℕ → Option ℕ → Kept
+alpha_tag k None = Kept.No
+alpha_tag k (Some w) = Kept.Tag (rec k w 0 0 0 0 0 0)
 
-abbrev pub colour_tag : ℕ → C.Colour → Kept
-colour_tag k C.Colour.No = Kept.No
-colour_tag k (Rgb r g b) = Kept.Tag (rec k r g b 0 0 0 0)
+abbrev pub colour_tag : ℕ → Option C.Rgb → Kept
+colour_tag k None = Kept.No
+colour_tag k (Some c) = Kept.Tag (rec k c.red c.green c.blue 0 0 0 0)
 
-abbrev pub part_of : Tag.Part → PartWords
-part_of x = record { offset = x.offset; size = x.size }
+abbrev pub part_words : Tag.Part → ℕ × ℕ
+part_words x = (x.offset, x.size)
 
 abbrev pub drawing_tag : ℕ → ℕ → ℕ → Kept
 drawing_tag k p q = Kept.Tag (rec k (part p q).offset (part p q).size 0 0 0 0 0)
@@ -164,7 +171,7 @@ shaped_tag (Flag k) s p q = flag_tag k s p q
 shaped_tag (Alpha k) s p q = alpha_tag k (alpha_at s p q)
 shaped_tag (Colour k) s p q = colour_tag k (colour_at s p q)
 shaped_tag (Clip k d) s p q = clip_tag k d (numbers_at false s p q) p q
-shaped_tag (Beat k) s p q = keep_word (λ w. rec 46 k (beat_word w) 0 0 0 0 0) (word_of_f32 (f32_at s p q))
+shaped_tag (Beat k) s p q = keep_word (λ w. rec 46 (kind_word k) (beat_word w) 0 0 0 0 0) (word_of_f32 (f32_at s p q))
 shaped_tag Fad s p q = let n = numbers_at true s p q in fad_tag n.all n.count n.words
 shaped_tag Fade s p q = let n = numbers_at true s p q in fade_tag n.all n.count n.words
 shaped_tag Move s p q = let n = numbers_at false s p q in long_or n.too_long (move_tag n.all n.count n.words)

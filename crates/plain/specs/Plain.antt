@@ -1,15 +1,12 @@
 -- One tag, \t apart: Rust's `parse_one`, by positions. The name stands from i to m, its parameter from p to q.
-use Rattle.std.specs.Prelude.{List, [], ◌∷◌, Bool, true, false, ℕ, ◌+◌, ◌-◌, min, leb, ltb, eqb, ℤ, pos, negsuc, Float, length, get_or}
+use Rattle.std.specs.Prelude.{List, [], ◌∷◌, Bool, true, false, ℕ, ◌+◌, ◌-◌, min, leb, ltb, eqb, ℤ, pos, negsuc, Float, length, get_or, Option, Some, None}
 use Rattle.std.specs.Float.Ieee.{to_signed}
 use Rattle.scan.specs.Scan.{pick, either, trim_start, trim_end}
 use Rattle.float.specs.Float.{zero as plus_zero, reach, max_zero, round_away, round_byte, to_word}
 use Rattle.numeral.specs.Numeral.{F32, number, too_long_lem, f32_at, I32, whole, i32_at}
-use Rattle.numeral.specs.declared.Numeral.{Numeral}
-use Rattle.numeral.specs.declared.Numeral.TheVariants.{No, TooLong, Word}
 use Rattle.lists.specs.Lists.{Stretch, parts}
 use Rattle.colour.specs.Colour.{alpha_at, colour_at}
-use Rattle.colour.specs.declared.Colour.{Colour}
-use Rattle.colour.specs.declared.Colour.TheVariants.{Rgb}
+use Rattle.colour.specs.declared.Rgb.{Rgb}
 use Rattle.tag.specs.Tag as Tag
 use Rattle.tag.specs.Tag.{AnimatedTag, absent, times, Fad, Fade, Move, Be, Pbo, B, R, Fn, Karaoke, cs, plain, named}
 use Rattle.tag.specs.declared.KaraokeKind.{KaraokeKind}
@@ -158,14 +155,13 @@ flag_of f s p q =
     (pick (eqb (get_or s a 0) 48) (kept (f false)) (pick (eqb (get_or s a 0) 49) (kept (f true)) no))
     no
 
-abbrev pub map_alpha : (ℕ → AnimatedTag) → Numeral → One
-map_alpha f No = no
-map_alpha f (TooLong p) = no
-map_alpha f (Word n) = kept (f n)
+abbrev pub map_alpha : (ℕ → AnimatedTag) → Option ℕ → One
+map_alpha f None = no
+map_alpha f (Some n) = kept (f n)
 
-abbrev pub map_colour : (Tag.Rgb → AnimatedTag) → Colour → One
-map_colour f Colour.No = no
-map_colour f (Rgb r g b) = kept (f (record { red = r; green = g; blue = b }))
+abbrev pub map_colour : (Tag.Rgb → AnimatedTag) → Option Rgb → One
+map_colour f None = no
+map_colour f (Some c) = kept (f (record { red = c.red; green = c.green; blue = c.blue }))
 
 -- \clip, \iclip: a rectangle where there are four parts and all are numbers, else the whole parameter as a drawing
 unfoldable pub clip_of : (Float → Float → Float → Float → AnimatedTag) → (Tag.Part → AnimatedTag) → List F32 → ℕ → ℕ → One
@@ -214,8 +210,8 @@ unfoldable pub is_named_reset : List ℕ → ℕ → ℕ → ℕ → ℕ → Boo
 is_named_reset s i m p q = pick (leb 2 (m - i)) (pick (eqb (key_of (lowered s 1 i)) (key "r")) (leb q p) false) false
 
 -- one tag, \t apart
-unfoldable pub plain_at_lem : List ℕ → ℕ → ℕ → ℕ → ℕ → One
-plain_at_lem s i m p q =
+unfoldable pub plain_at : List ℕ → ℕ → ℕ → ℕ → ℕ → One
+plain_at s i m p q =
     let x = kept (Fn (part (i + 2) m) (part p (trim_end s p q))) in
     let y = kept (R (named (part (i + 1) m))) in
     let z = shaped (lookup (key_at s i m) names) s p q in

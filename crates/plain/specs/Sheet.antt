@@ -11,7 +11,7 @@ use Rattle.colour.specs.Colour.{trimmed, ampersands, zero_xat, digits, alpha_at,
 use Rattle.tag.specs.Tag.{Part, Fad, Fade, Pos, Move, absent, times, Fs, Color1, ClipRect, ClipDrawing, Be, Alpha, An, Fn, R, plain, named, B, I, Karaoke, cs, Pbo}
 use Rattle.tag.specs.declared.KaraokeKind.TheVariants.{Sweep}
 use Rattle.plain.specs.Names.{names, lookup, lowered, key_at}
-use Rattle.plain.specs.Plain.{One, no, long, kept, far, part, f32s, i32s, all_floats, floats_in, all_ints, ints_in, unless_long, pair_of, move_of, fad_of, fade_of, ranged_of, weight_of, flag_of, clip_of, reset_of, shaped, is_fn, is_named_reset, plain_at_lem}
+use Rattle.plain.specs.Plain.{One, no, long, kept, far, part, f32s, i32s, all_floats, floats_in, all_ints, ints_in, unless_long, pair_of, move_of, fad_of, fade_of, ranged_of, weight_of, flag_of, clip_of, reset_of, shaped, is_fn, is_named_reset, plain_at}
 
 -- a name, its parameter, and what they give
 abbrev Row : Type 0
@@ -20,7 +20,7 @@ Row = String × String × One
 abbrev given : String → String → One
 given name parameter =
     let m = length (bytes name) in
-    plain_at_lem (bytes name ++ bytes parameter) 0 m m (m + length (bytes parameter))
+    plain_at (bytes name ++ bytes parameter) 0 m m (m + length (bytes parameter))
 
 abbrev Gives : List Row → Type 0
 Gives rows = map (λ (r : Row). given r.0 r.1) rows ≡ map (λ (r : Row). r.2) rows
@@ -45,7 +45,7 @@ pub floats : Gives (
     ("K", "5", kept (Karaoke Sweep (cs 5))) ∷
     ("kf", "-5", kept (Karaoke Sweep (cs 0))) ∷
     [])
-unfolding span skip skip_back blank_at blank_before value split_at exponent_at float_of f32_of round lt max_zero round_away round_byte names lookup lowered key_at is_fn is_named_reset shaped plain_at_lem
+unfolding span skip skip_back blank_at blank_before value split_at exponent_at float_of f32_of round lt max_zero round_away round_byte names lookup lowered key_at is_fn is_named_reset shaped plain_at
 floats = refl
 
 -- comma lists: every part is looked at for a numeral that is too long, \clip's only where there are four
@@ -71,7 +71,7 @@ pub lists : Gives (
     ("fade", "256,-1,7,1000000000,-1000000000,0,0", kept (Fade 255 0 7 (pos 1000000000) (neg_ℤ (pos 1000000000)) (pos 0) (pos 0))) ∷
     ("fade", "0,0,0,0,0,0,-1000000001", far (Fade 0 0 0 (pos 0) (pos 0) (pos 0) (neg_ℤ (pos 1000000001)))) ∷
     [])
-unfolding span skip skip_back blank_at blank_before value whole_number i32_of split_at exponent_at float_of f32_of round to_signed split f32s i32s all_floats floats_in all_ints ints_in unless_long pair_of move_of fad_of fade_of clip_of part names lookup lowered key_at is_fn is_named_reset shaped plain_at_lem
+unfolding span skip skip_back blank_at blank_before value whole_number i32_of split_at exponent_at float_of f32_of round to_signed split f32s i32s all_floats floats_in all_ints ints_in unless_long pair_of move_of fad_of fade_of clip_of part names lookup lowered key_at is_fn is_named_reset shaped plain_at
 lists = refl
 
 pub words : Gives (
@@ -88,7 +88,7 @@ pub words : Gives (
     ("c", "&H0x0xFF&", kept (Color1 (record { red = 255; green = 0; blue = 0 }))) ∷
     ("1c", "&H010203&", kept (Color1 (record { red = 3; green = 2; blue = 1 }))) ∷
     [])
-unfolding span back skip skip_back blank_at blank_before value whole_number i32_of hex_at trimmed ampersands zero_xat digits alpha_at colour_at ranged_of weight_of flag_of names lookup lowered key_at is_fn is_named_reset shaped plain_at_lem
+unfolding span back skip skip_back blank_at blank_before value whole_number i32_of hex_at trimmed ampersands zero_xat digits alpha_at colour_at ranged_of weight_of flag_of names lookup lowered key_at is_fn is_named_reset shaped plain_at
 words = refl
 
 -- \fn and \r: parts of the text
@@ -102,5 +102,5 @@ pub parts : Gives (
     ("rAlt", "", kept (R (named (from 1 3)))) ∷
     ("rAlt", "x", no) ∷
     [])
-unfolding skip skip_back blank_at blank_before part reset_of names lookup lowered key_at is_fn is_named_reset shaped plain_at_lem
+unfolding skip skip_back blank_at blank_before part reset_of names lookup lowered key_at is_fn is_named_reset shaped plain_at
 parts = refl

@@ -2,12 +2,15 @@
 #![tactic(auto)]
 
 ghost use Rattle.std.specs.Prelude.{◌≡◌, ◌+◌, ◌-◌, ◌^◌, ◌≤◌, ◌<◌, length};
-ghost use Rattle.tag.specs.Table.{rec};
 ghost use Rattle.plain.specs.Names.{key_of, lowered, key_at, lookup, names};
-ghost use Rattle.plain.specs.Plain.{is_fn, is_named_reset, part, plain_at_lem};
-ghost use Rattle.plain.specs.Inner.{code_of, keep_word, beat_word, baseline_word, edge_word, cut_word, long_or, pair_tag, move_tag, not_below_zero_word, byte_word_lem, far_word, fad_tag, fade_tag, ranged_tag, weight_tag, flag_tag, alpha_tag, colour_tag, clip_tag, reset_tag, fn_tag, part_of, shaped_tag, kept_of};
+ghost use Rattle.plain.specs.Plain.{is_fn, is_named_reset, part, plain_at};
+ghost use Rattle.plain.specs.Inner.{code_of, KeepsWord, kept_record, cut_word, long_or, pair_tag, move_tag, not_below_zero_word, byte_word, far_word, fad_tag, fade_tag, ranged_tag, weight_tag, flag_tag, clip_tag, reset_tag, fn_tag, part_words, shaped_tag, kept_of};
 
-// What a tag's parameter is, with the kind of the record that it makes.
+use lists::Numbers;
+use numeral::Numeral;
+use tag::{KaraokeKind, Record};
+
+// What a tag's parameter is, with the kind of the record that it makes: a number, as the C interface has it (docs/SCOPE.md).
 #[derive(Clone, Copy, Drop)]
 pub enum Shape {
     Float(u32),
@@ -17,7 +20,7 @@ pub enum Shape {
     Alpha(u32),
     Colour(u32),
     Clip(u32, u32),
-    Beat(u32),
+    Beat(KaraokeKind),
     Fad,
     Fade,
     Move,
@@ -33,72 +36,77 @@ pub enum Shape {
 pub enum Kept {
     No,
     Long(usize),
-    Tag(tag::Record),
-    Far(tag::Record),
+    Tag(Record),
+    Far(Record),
 }
 
-// A part of the text as two words of a record.
-#[derive(Clone, Copy, Drop)]
-pub struct PartWords {
-    pub offset: u32,
-    pub size: u32,
+impl From<Option<Record>> for Kept {
+    ghost from_gives = { λ r k. k ≡ kept_record r };
+
+    fn from(r: Option<Record>) -> Kept {
+        match r {
+            Some(r) => Kept::Tag(r),
+            None => Kept::No,
+        }
+    }
 }
 
 // The shape of the tag with a name, which is given by its bytes as digits to the base 256.
+#[tactic(auto, using(crate::proofs::Keys::missed), unfolding(crate::specs::Names::names, crate::specs::Names::lookup, crate::specs::Inner::code_of, tag::specs::Table::records))]
 fn shape_of(key: u64) -> Shape
     ensures { result ≡ code_of (lookup key names) }
 {
     match key {
-        0x666164 => Shape::Fad,
-        0x66616465 => Shape::Fade,
-        0x6D6F7665 => Shape::Move,
-        0x66727A => Shape::Float(5),
-        0x6672 => Shape::Float(5),
-        0x667278 => Shape::Float(13),
-        0x667279 => Shape::Float(14),
-        0x706F73 => Shape::Pair(3),
-        0x6F7267 => Shape::Pair(15),
-        0x626C7572 => Shape::Float(6),
-        0x6265 => Shape::Edge,
-        0x626F7264 => Shape::Float(16),
-        0x78626F7264 => Shape::Float(17),
-        0x79626F7264 => Shape::Float(18),
-        0x73686164 => Shape::Float(19),
-        0x7873686164 => Shape::Float(20),
-        0x7973686164 => Shape::Float(21),
-        0x70626F => Shape::Baseline,
-        0x70 => Shape::Ranged(48, 0, 255),
-        0x666178 => Shape::Float(23),
-        0x666179 => Shape::Float(24),
-        0x66736378 => Shape::Float(7),
-        0x66736379 => Shape::Float(8),
-        0x6673 => Shape::Float(10),
-        0x667370 => Shape::Float(35),
-        0x71 => Shape::Ranged(36, 0, 3),
-        0x616E => Shape::Ranged(37, 1, 9),
-        0x61 => Shape::Ranged(38, 0, 255),
-        0x6B => Shape::Beat(0),
-        0x4B => Shape::Beat(1),
-        0x6B66 => Shape::Beat(1),
-        0x6B6F => Shape::Beat(2),
-        0x63 => Shape::Colour(9),
-        0x3163 => Shape::Colour(9),
-        0x3263 => Shape::Colour(27),
-        0x3363 => Shape::Colour(28),
-        0x3463 => Shape::Colour(29),
-        0x616C706861 => Shape::Alpha(30),
-        0x3161 => Shape::Alpha(31),
-        0x3261 => Shape::Alpha(32),
-        0x3361 => Shape::Alpha(33),
-        0x3461 => Shape::Alpha(34),
-        0x636C6970 => Shape::Clip(11, 12),
-        0x69636C6970 => Shape::Clip(25, 26),
-        0x6665 => Shape::Ranged(40, 0, 255),
-        0x62 => Shape::Weight,
-        0x69 => Shape::Flag(43),
-        0x75 => Shape::Flag(44),
-        0x73 => Shape::Flag(45),
-        0x72 => Shape::Reset,
+        0x666164 => Shape::Fad, // fad
+        0x66616465 => Shape::Fade, // fade
+        0x6D6F7665 => Shape::Move, // move
+        0x66727A => Shape::Float(5), // frz
+        0x6672 => Shape::Float(5), // fr
+        0x667278 => Shape::Float(13), // frx
+        0x667279 => Shape::Float(14), // fry
+        0x706F73 => Shape::Pair(3), // pos
+        0x6F7267 => Shape::Pair(15), // org
+        0x626C7572 => Shape::Float(6), // blur
+        0x6265 => Shape::Edge, // be
+        0x626F7264 => Shape::Float(16), // bord
+        0x78626F7264 => Shape::Float(17), // xbord
+        0x79626F7264 => Shape::Float(18), // ybord
+        0x73686164 => Shape::Float(19), // shad
+        0x7873686164 => Shape::Float(20), // xshad
+        0x7973686164 => Shape::Float(21), // yshad
+        0x70626F => Shape::Baseline, // pbo
+        0x70 => Shape::Ranged(48, 0, 255), // p
+        0x666178 => Shape::Float(23), // fax
+        0x666179 => Shape::Float(24), // fay
+        0x66736378 => Shape::Float(7), // fscx
+        0x66736379 => Shape::Float(8), // fscy
+        0x6673 => Shape::Float(10), // fs
+        0x667370 => Shape::Float(35), // fsp
+        0x71 => Shape::Ranged(36, 0, 3), // q
+        0x616E => Shape::Ranged(37, 1, 9), // an
+        0x61 => Shape::Ranged(38, 0, 255), // a
+        0x6B => Shape::Beat(KaraokeKind::Fill), // k
+        0x4B => Shape::Beat(KaraokeKind::Sweep), // K
+        0x6B66 => Shape::Beat(KaraokeKind::Sweep), // kf
+        0x6B6F => Shape::Beat(KaraokeKind::Outline), // ko
+        0x63 => Shape::Colour(9), // c
+        0x3163 => Shape::Colour(9), // 1c
+        0x3263 => Shape::Colour(27), // 2c
+        0x3363 => Shape::Colour(28), // 3c
+        0x3463 => Shape::Colour(29), // 4c
+        0x616C706861 => Shape::Alpha(30), // alpha
+        0x3161 => Shape::Alpha(31), // 1a
+        0x3261 => Shape::Alpha(32), // 2a
+        0x3361 => Shape::Alpha(33), // 3a
+        0x3461 => Shape::Alpha(34), // 4a
+        0x636C6970 => Shape::Clip(11, 12), // clip
+        0x69636C6970 => Shape::Clip(25, 26), // iclip
+        0x6665 => Shape::Ranged(40, 0, 255), // fe
+        0x62 => Shape::Weight, // b
+        0x69 => Shape::Flag(43), // i
+        0x75 => Shape::Flag(44), // u
+        0x73 => Shape::Flag(45), // s
+        0x72 => Shape::Reset, // r
         _ => Shape::Unknown,
     }
 }
@@ -108,16 +116,15 @@ fn key_of(text: &[u8], from: usize, to: usize) -> u64
     requires { (from ≤ to) × (to ≤ from + 5) × (to ≤ length text.now) }
     ensures { result ≡ key_of (lowered text.now (to - from) from) }
 {
-    let mut i = from;
-    let mut a: u64 = 0;
-    while i < to {
-        a = a * 256 + (scan::lower(text[i]) as u64);
-        i += 1;
+    let mut key = 0;
+    for i in from..to {
+        key = key * 256 + u64::from(scan::lower(text[i]));
     }
-    a
+    key
 }
 
 // The name between two places.
+#[tactic(auto, unfolding(crate::specs::Names::key_at))]
 pub fn key_at(text: &[u8], i: usize, m: usize) -> u64
     requires { (i ≤ m) × (m ≤ length text.now) }
     ensures { result ≡ key_at text.now i m }
@@ -125,76 +132,21 @@ pub fn key_at(text: &[u8], i: usize, m: usize) -> u64
     if m - i > 5 {
         return 0;
     }
-    if m - i != 1 {
-        return key_of(text, i, m);
-    }
-    if text[i] == 0x4B {
+    if m - i == 1 && text[i] == b'K' {
         return 0x4B;
     }
     key_of(text, i, m)
 }
 
-fn record(kind: u32, w1: u32, w2: u32, w3: u32, w4: u32, w5: u32, w6: u32, w7: u32) -> tag::Record
-    ensures { result ≡ rec kind w1 w2 w3 w4 w5 w6 w7 }
-{
-    tag::Record {
-        kind,
-        w1,
-        w2,
-        w3,
-        w4,
-        w5,
-        w6,
-        w7,
-    }
-}
-
-fn float_tag(kind: u32, n: numeral::Numeral) -> Kept
-    ensures { result ≡ keep_word (λ w. rec kind w 0 0 0 0 0 0) n }
+// The tag of one number, whose word makes its record.
+fn keep_word<F: FnOnce(u32) -> Record>(n: Numeral, make: F) -> Kept
+    requires { F.IsAlwaysCallable make }
+    ensures { KeepsWord (F.post make) n result }
 {
     match n {
-        numeral::Numeral::Word(w) => Kept::Tag(record(kind, w, 0, 0, 0, 0, 0, 0)),
-        numeral::Numeral::TooLong(p) => Kept::Long(p),
-        numeral::Numeral::No => Kept::No,
-    }
-}
-
-fn beat_tag(kind: u32, n: numeral::Numeral) -> Kept
-    ensures { result ≡ keep_word (λ w. rec 46 kind (beat_word w) 0 0 0 0 0) n }
-{
-    match n {
-        numeral::Numeral::Word(w) => {
-            let cs = float::to_word(float::round_away(float::max_zero(float::f32_of_word(w))));
-            Kept::Tag(record(46, kind, cs, 0, 0, 0, 0, 0))
-        }
-        numeral::Numeral::TooLong(p) => Kept::Long(p),
-        numeral::Numeral::No => Kept::No,
-    }
-}
-
-fn edge_tag(n: numeral::Numeral) -> Kept
-    ensures { result ≡ keep_word (λ w. rec 22 (edge_word w) 0 0 0 0 0 0) n }
-{
-    match n {
-        numeral::Numeral::Word(w) => {
-            let n = float::round_byte(float::f32_of_word(w)) as u32;
-            Kept::Tag(record(22, n, 0, 0, 0, 0, 0, 0))
-        }
-        numeral::Numeral::TooLong(p) => Kept::Long(p),
-        numeral::Numeral::No => Kept::No,
-    }
-}
-
-fn baseline_tag(n: numeral::Numeral) -> Kept
-    ensures { result ≡ keep_word (λ w. rec 47 (baseline_word w) 0 0 0 0 0 0) n }
-{
-    match n {
-        numeral::Numeral::Word(w) => {
-            let y = float::to_word(float::round_away(float::f32_of_word(w)));
-            Kept::Tag(record(47, y, 0, 0, 0, 0, 0, 0))
-        }
-        numeral::Numeral::TooLong(p) => Kept::Long(p),
-        numeral::Numeral::No => Kept::No,
+        Numeral::Word(w) => Kept::Tag(make(w)),
+        Numeral::TooLong(p) => Kept::Long(p),
+        Numeral::No => Kept::No,
     }
 }
 
@@ -214,237 +166,175 @@ fn long_or(l: lists::Found, k: Kept) -> Kept
     }
 }
 
-fn paired(kind: u32, n: lists::Numbers) -> Kept
-    ensures { result ≡ pair_tag kind n.all n.count n.words }
+#[tactic(auto, unfolding(crate::specs::Inner::pair_tag))]
+fn pair_of(kind: u32, n: Numbers) -> Option<Record>
+    ensures { kept_record result ≡ pair_tag kind n.all n.count n.words }
 {
-    let w = n.words;
-    if n.all {
-        if n.count == 2 {
-            return Kept::Tag(record(kind, w[0], w[1], 0, 0, 0, 0, 0));
-        }
+    if n.all && n.count == 2 {
+        return Some(Record::of(kind, [n.words[0], n.words[1]]));
     }
-    Kept::No
+    None
 }
 
-fn pair_of(kind: u32, n: lists::Numbers) -> Kept
-    ensures { result ≡ long_or n.too_long (pair_tag kind n.all n.count n.words) }
+#[tactic(auto, unfolding(crate::specs::Inner::move_tag))]
+fn move_of(n: Numbers) -> Option<Record>
+    ensures { kept_record result ≡ move_tag n.all n.count n.words }
 {
-    let l = n.too_long;
-    long_or(l, paired(kind, n))
-}
-
-fn moved(n: lists::Numbers) -> Kept
-    ensures { result ≡ move_tag n.all n.count n.words }
-{
-    let w = n.words;
-    if n.all {
-        if n.count == 4 {
-            return Kept::Tag(record(4, w[0], w[1], w[2], w[3], 0, 0, 0));
-        }
-        if n.count == 6 {
-            return Kept::Tag(record(4, w[0], w[1], w[2], w[3], 1, time_of(w[4]), time_of(w[5])));
-        }
+    let [x1, y1, x2, y2, t1, t2, _] = n.words;
+    match (n.all, n.count) {
+        (true, 4) => Some(Record::of(4, [x1, y1, x2, y2])),
+        (true, 6) => Some(Record::of(4, [x1, y1, x2, y2, 1, time_of(t1), time_of(t2)])),
+        _ => None,
     }
-    Kept::No
-}
-
-fn move_of(n: lists::Numbers) -> Kept
-    ensures { result ≡ long_or n.too_long (move_tag n.all n.count n.words) }
-{
-    let l = n.too_long;
-    long_or(l, moved(n))
 }
 
 fn not_below_zero(w: u32) -> u32
     ensures { result ≡ not_below_zero_word w }
 {
-    if w < 2147483648 { w } else { 0 }
+    w.cast_signed().max(0).cast_unsigned()
 }
 
 fn byte_of(w: u32) -> u32
-    ensures { result ≡ byte_word_lem w }
+    ensures { result ≡ byte_word w }
 {
-    let n = not_below_zero(w);
-    if n <= 255 { n } else { 255 }
+    not_below_zero(w).min(255)
 }
 
 fn is_far(w: u32) -> bool
     ensures { result ≡ far_word w }
 {
-    if w <= 1000000000 {
-        false
-    } else {
-        w < 3294967296
-    }
+    w.cast_signed().unsigned_abs() > 1_000_000_000
 }
 
-fn fad_of(n: lists::Numbers) -> Kept
-    ensures { result ≡ fad_tag n.all n.count n.words }
+#[tactic(auto, unfolding(crate::specs::Inner::fad_tag))]
+fn fad_of(n: Numbers) -> Option<Record>
+    ensures { kept_record result ≡ fad_tag n.all n.count n.words }
 {
-    let w = n.words;
-    if n.all {
-        if n.count >= 2 {
-            return Kept::Tag(record(1, not_below_zero(w[0]), not_below_zero(w[1]), 0, 0, 0, 0, 0));
-        }
+    if n.all && n.count >= 2 {
+        return Some(Record::of(1, [not_below_zero(n.words[0]), not_below_zero(n.words[1])]));
     }
-    Kept::No
+    None
 }
 
-fn fade_of(n: lists::Numbers) -> Kept
+#[tactic(auto, unfolding(crate::specs::Inner::fade_tag))]
+fn fade_of(n: Numbers) -> Kept
     ensures { result ≡ fade_tag n.all n.count n.words }
 {
-    let w = n.words;
-    if n.all {
-        if n.count >= 7 {
-            let x = record(
-                2,
-                byte_of(w[0]),
-                byte_of(w[1]),
-                byte_of(w[2]),
-                w[3],
-                w[4],
-                w[5],
-                w[6],
-            );
-            if scan::either(
-                is_far(w[3]),
-                scan::either(is_far(w[4]), scan::either(is_far(w[5]), is_far(w[6]))),
-            ) {
-                return Kept::Far(x);
-            }
-            return Kept::Tag(x);
-        }
+    if !n.all || n.count < 7 {
+        return Kept::No;
     }
-    Kept::No
+    let [a1, a2, a3, t1, t2, t3, t4] = n.words;
+    let r = Record::of(2, [byte_of(a1), byte_of(a2), byte_of(a3), t1, t2, t3, t4]);
+    if is_far(t1) || is_far(t2) || is_far(t3) || is_far(t4) {
+        return Kept::Far(r);
+    }
+    Kept::Tag(r)
 }
 
-fn ranged_of(kind: u32, low: u32, high: u32, n: numeral::Numeral) -> Kept
-    ensures { result ≡ ranged_tag kind low high n }
+#[tactic(auto, unfolding(crate::specs::Inner::ranged_tag))]
+fn ranged_of(kind: u32, low: u32, high: u32, n: Numeral) -> Option<Record>
+    ensures { kept_record result ≡ ranged_tag kind low high n }
 {
-    match n {
-        numeral::Numeral::Word(w) => {
-            if low <= w {
-                if w <= high {
-                    return Kept::Tag(record(kind, w, 0, 0, 0, 0, 0, 0));
-                }
-            }
-            Kept::No
-        }
-        numeral::Numeral::TooLong(_) => Kept::No,
-        numeral::Numeral::No => Kept::No,
+    match n.word() {
+        Some(w) if low <= w && w <= high => Some(Record::of(kind, [w])),
+        _ => None,
     }
 }
 
-fn weight_of(n: numeral::Numeral) -> Kept
-    ensures { result ≡ weight_tag n }
+#[tactic(auto, unfolding(crate::specs::Inner::weight_tag))]
+fn weight_of(n: Numeral) -> Option<Record>
+    ensures { kept_record result ≡ weight_tag n }
 {
-    match n {
-        numeral::Numeral::Word(w) => {
-            if w == 0 {
-                return Kept::Tag(record(42, 0, 0, 0, 0, 0, 0, 0));
-            }
-            if w == 1 {
-                return Kept::Tag(record(42, 700, 0, 0, 0, 0, 0, 0));
-            }
-            ranged_of(42, 100, 900, n)
-        }
-        numeral::Numeral::TooLong(_) => Kept::No,
-        numeral::Numeral::No => Kept::No,
+    match n.word()? {
+        0 => Some(Record::of(42, [0])),
+        1 => Some(Record::of(42, [700])),
+        _ => ranged_of(42, 100, 900, n),
     }
 }
 
-fn flag_of(text: &[u8], kind: u32, p: usize, q: usize) -> Kept
+#[tactic(auto, unfolding(crate::specs::Inner::flag_tag))]
+fn flag_of(text: &[u8], kind: u32, p: usize, q: usize) -> Option<Record>
     requires { (p ≤ q) × (q ≤ length text.now) }
-    ensures { result ≡ flag_tag kind text.now p q }
+    ensures { kept_record result ≡ flag_tag kind text.now p q }
 {
     let a = scan::trim_start(text, p, q);
     let b = scan::trim_end(text, a, q);
-    if b - a == 1 {
-        if text[a] == 48 {
-            return Kept::Tag(record(kind, 0, 0, 0, 0, 0, 0, 0));
-        }
-        if text[a] == 49 {
-            return Kept::Tag(record(kind, 1, 0, 0, 0, 0, 0, 0));
-        }
+    if b - a != 1 {
+        return None;
     }
-    Kept::No
-}
-
-fn alpha_of(kind: u32, n: numeral::Numeral) -> Kept
-    ensures { result ≡ alpha_tag kind n }
-{
-    match n {
-        numeral::Numeral::Word(w) => Kept::Tag(record(kind, w, 0, 0, 0, 0, 0, 0)),
-        numeral::Numeral::TooLong(_) => Kept::No,
-        numeral::Numeral::No => Kept::No,
+    match text[a] {
+        b'0' => Some(Record::of(kind, [0])),
+        b'1' => Some(Record::of(kind, [1])),
+        _ => None,
     }
 }
 
-fn colour_of(kind: u32, c: colour::Colour) -> Kept
-    ensures { result ≡ colour_tag kind c }
-{
-    match c {
-        colour::Colour::Rgb(r, g, b) => Kept::Tag(record(kind, r, g, b, 0, 0, 0, 0)),
-        colour::Colour::No => Kept::No,
-    }
-}
-
-// The part between two places as words; an empty one is 0 and 0.
-fn part_of(p: usize, q: usize) -> PartWords
+// The part between two places as two words; an empty one is 0 and 0.
+#[tactic(auto, unfolding(crate::specs::Plain::part))]
+fn part_of(p: usize, q: usize) -> (u32, u32)
     requires { q < 2 ^ 32 }
-    ensures { result ≡ part_of (part p q) }
+    ensures { result ≡ part_words (part p q) }
 {
     if p < q {
-        return PartWords {
-            offset: p as u32,
-            size: (q - p) as u32,
-        };
+        return (p as u32, (q - p) as u32);
     }
-    PartWords { offset: 0, size: 0 }
+    (0, 0)
 }
 
-fn clip_of(kind: u32, drawn: u32, n: lists::Numbers, p: usize, q: usize) -> Kept
+#[tactic(auto, unfolding(crate::specs::Inner::clip_tag))]
+fn clip_of(kind: u32, drawn: u32, n: Numbers, p: usize, q: usize) -> Kept
     requires { q < 2 ^ 32 }
     ensures { result ≡ clip_tag kind drawn n p q }
 {
-    let x = part_of(p, q);
-    let drawing = Kept::Tag(record(drawn, x.offset, x.size, 0, 0, 0, 0, 0));
+    let (offset, size) = part_of(p, q);
+    let drawing = Kept::Tag(Record::of(drawn, [offset, size]));
     if n.count != 4 {
         return drawing;
     }
-    let w = n.words;
-    let l = n.too_long;
     if n.all {
-        return long_or(l, Kept::Tag(record(kind, w[0], w[1], w[2], w[3], 0, 0, 0)));
+        let [x1, y1, x2, y2, _, _, _] = n.words;
+        return long_or(n.too_long, Kept::Tag(Record::of(kind, [x1, y1, x2, y2])));
     }
-    long_or(l, drawing)
+    long_or(n.too_long, drawing)
 }
 
-fn reset_of(text: &[u8], p: usize, q: usize) -> Kept
+#[tactic(auto, unfolding(crate::specs::Inner::reset_tag))]
+fn reset_of(text: &[u8], p: usize, q: usize) -> Record
     requires { (p ≤ q) × (q ≤ length text.now) × (q < 2 ^ 32) }
-    ensures { result ≡ reset_tag text.now p q }
+    ensures { Kept.Tag result ≡ reset_tag text.now p q }
 {
     let a = scan::trim_start(text, p, q);
     let b = scan::trim_end(text, a, q);
     if a < b {
-        let x = part_of(a, b);
-        return Kept::Tag(record(41, 1, x.offset, x.size, 0, 0, 0, 0));
+        let (offset, size) = part_of(a, b);
+        return Record::of(41, [1, offset, size]);
     }
-    Kept::Tag(record(41, 0, 0, 0, 0, 0, 0, 0))
+    Record::of(41, [0])
 }
 
 // A parameter by its shape.
+#[tactic(auto, unfolding(crate::specs::Inner::shaped_tag))]
 fn shaped(text: &[u8], shape: Shape, p: usize, q: usize) -> Kept
     requires { (p ≤ q) × (q ≤ length text.now) × (q < 2 ^ 32) }
     ensures { result ≡ shaped_tag shape text.now p q }
 {
     match shape {
-        Shape::Float(kind) => float_tag(kind, numeral::f32_at(text, p, q)),
-        Shape::Pair(kind) => pair_of(kind, lists::numbers_at(text, false, p, q)),
-        Shape::Ranged(kind, low, high) => ranged_of(kind, low, high, numeral::i32_at(text, p, q)),
-        Shape::Flag(kind) => flag_of(text, kind, p, q),
-        Shape::Alpha(kind) => alpha_of(kind, colour::alpha_at(text, p, q)),
-        Shape::Colour(kind) => colour_of(kind, colour::colour_at(text, p, q)),
+        Shape::Float(kind) => keep_word(numeral::f32_at(text, p, q), |w| Record::of(kind, [w])),
+        Shape::Pair(kind) => {
+            let n = lists::numbers_at(text, false, p, q);
+            long_or(n.too_long, Kept::from(pair_of(kind, n)))
+        }
+        Shape::Ranged(kind, low, high) => {
+            Kept::from(ranged_of(kind, low, high, numeral::i32_at(text, p, q)))
+        }
+        Shape::Flag(kind) => Kept::from(flag_of(text, kind, p, q)),
+        Shape::Alpha(kind) => {
+            Kept::from(colour::alpha_at(text, p, q).map(|a| Record::of(kind, [a])))
+        }
+        Shape::Colour(kind) => Kept::from(colour::colour_at(text, p, q).map(|c| Record::of(
+            kind,
+            [c.red, c.green, c.blue],
+        ))),
         Shape::Clip(kind, drawn) => clip_of(
             kind,
             drawn,
@@ -452,62 +342,71 @@ fn shaped(text: &[u8], shape: Shape, p: usize, q: usize) -> Kept
             p,
             q,
         ),
-        Shape::Beat(kind) => beat_tag(kind, numeral::f32_at(text, p, q)),
-        Shape::Fad => fad_of(lists::numbers_at(text, true, p, q)),
+        Shape::Beat(kind) => keep_word(numeral::f32_at(text, p, q), |w| {
+            let beats = float::round_away(float::max_zero(float::f32_of_word(w)));
+            Record::of(46, [u32::from(kind), float::to_word(beats)])
+        }),
+        Shape::Fad => Kept::from(fad_of(lists::numbers_at(text, true, p, q))),
         Shape::Fade => fade_of(lists::numbers_at(text, true, p, q)),
-        Shape::Move => move_of(lists::numbers_at(text, false, p, q)),
-        Shape::Edge => edge_tag(numeral::f32_at(text, p, q)),
-        Shape::Baseline => baseline_tag(numeral::f32_at(text, p, q)),
-        Shape::Weight => weight_of(numeral::i32_at(text, p, q)),
-        Shape::Reset => reset_of(text, p, q),
+        Shape::Move => {
+            let n = lists::numbers_at(text, false, p, q);
+            long_or(n.too_long, Kept::from(move_of(n)))
+        }
+        Shape::Edge => keep_word(numeral::f32_at(text, p, q), |w| {
+            Record::of(22, [u32::from(float::round_byte(float::f32_of_word(w)))])
+        }),
+        Shape::Baseline => keep_word(numeral::f32_at(text, p, q), |w| {
+            Record::of(
+                47,
+                [float::to_word(float::round_away(float::f32_of_word(w)))],
+            )
+        }),
+        Shape::Weight => Kept::from(weight_of(numeral::i32_at(text, p, q))),
+        Shape::Reset => Kept::Tag(reset_of(text, p, q)),
         Shape::Unknown => Kept::No,
     }
 }
 
 // Whether a name begins with fn and goes on.
+#[tactic(auto, unfolding(crate::specs::Plain::is_fn))]
 fn is_fn(text: &[u8], i: usize, m: usize) -> bool
     requires { (i ≤ m) × (m ≤ length text.now) }
     ensures { result ≡ is_fn text.now i m }
 {
-    if m - i >= 3 {
-        return key_of(text, i, i + 2) == 0x666E;
-    }
-    false
+    m - i >= 3 && key_of(text, i, i + 2) == 0x666E
 }
 
 // Whether a name begins with r and goes on, with an empty parameter.
+#[tactic(auto, unfolding(crate::specs::Plain::is_named_reset))]
 fn is_named_reset(text: &[u8], i: usize, m: usize, p: usize, q: usize) -> bool
     requires { (i ≤ m) × (m ≤ length text.now) }
     ensures { result ≡ is_named_reset text.now i m p q }
 {
-    if m - i >= 2 {
-        if key_of(text, i, i + 1) == 0x72 {
-            return q <= p;
-        }
-    }
-    false
+    m - i >= 2 && key_of(text, i, i + 1) == 0x72 && q <= p
 }
 
+#[tactic(auto, unfolding(crate::specs::Inner::fn_tag))]
 fn fn_tag(text: &[u8], i: usize, m: usize, p: usize, q: usize) -> Kept
     requires { (i + 2 ≤ m) × (m ≤ p) × (p ≤ q) × (q ≤ length text.now) × (q < 2 ^ 32) }
     ensures { result ≡ fn_tag text.now i m p q }
 {
-    let x = part_of(i + 2, m);
-    let y = part_of(p, scan::trim_end(text, p, q));
-    Kept::Tag(record(39, x.offset, x.size, y.offset, y.size, 0, 0, 0))
+    let (offset, size) = part_of(i + 2, m);
+    let (more, more_size) = part_of(p, scan::trim_end(text, p, q));
+    Kept::Tag(Record::of(39, [offset, size, more, more_size]))
 }
 
 // The tag whose name, of that key, stands from i to m and its parameter from p to q, \t apart.
+#[tactic(auto, using(crate::proofs::Bridge::bridge, crate::proofs::Keys::fn_goes_on), unfolding(crate::specs::Plain::plain_at, crate::specs::Inner::fn_tag, tag::specs::Table::records))]
 pub fn plain_at(text: &[u8], key: u64, i: usize, m: usize, p: usize, q: usize) -> Kept
     requires { (key ≡ key_at text.now i m) × (i ≤ m) × (m ≤ p) × (p ≤ q) × (q ≤ length text.now) × (q < 2 ^ 32) }
-    ensures { result ≡ kept_of (plain_at_lem text.now i m p q) }
+    ensures { result ≡ kept_of (plain_at text.now i m p q) }
 {
     if is_fn(text, i, m) {
         return fn_tag(text, i, m, p, q);
     }
     if is_named_reset(text, i, m, p, q) {
-        let x = part_of(i + 1, m);
-        return Kept::Tag(record(41, 1, x.offset, x.size, 0, 0, 0, 0));
+        let (offset, size) = part_of(i + 1, m);
+        return Kept::Tag(Record::of(41, [1, offset, size]));
     }
     shaped(text, shape_of(key), p, q)
 }
