@@ -6,7 +6,7 @@ use Rattle.std.specs.Float.Ieee.{add, mul, div, of_int}
 use Rattle.scan.specs.Scan.{pick, lower}
 use Rattle.float.specs.Float.{zero as f0, one as f1}
 use Rattle.path.specs.declared.PathCommand.{PathCommand}
-use Rattle.path.specs.Path.{move_to, line_to, cubic_to, closed}
+use Rattle.path.specs.declared.PathCommand.TheVariants.{MoveTo, LineTo, CubicTo, Close as Closed}
 use Rattle.tokens.specs.declared.Token.{Token}
 use Rattle.tokens.specs.declared.Token.TheVariants.{Letter, Number, Refused, Other}
 use Rattle.tokens.specs.Tokens.{until_letter}
@@ -61,7 +61,7 @@ abbrev pub span_end : Point → Point → Point → Point
 span_end b c d = bez b f1 c f4 d f1
 
 abbrev pub span_of : Point → Point → Point → PathCommand
-span_of b c d = cubic_to (bez b f4 c f2 c f0) (bez b f2 c f4 c f0) (span_end b c d)
+span_of b c d = CubicTo (bez b f4 c f2 c f0) (bez b f2 c f4 c f0) (span_end b c d)
 
 -- ---- reading points
 
@@ -130,12 +130,12 @@ span_gives b c p = gives (pen_of (span_end b c p) true (Spline (Span c p))) (spa
 abbrev pub spline_point : Point → Bool → Ctrl → Point → Gives
 spline_point cur opened (One a) p = gives (pen_of cur opened (Spline (Two a p))) []
 spline_point cur opened (Two a b) p = gives (pen_of cur opened (Spline (Three a b p))) []
-spline_point cur opened (Three a b c) p = gives (pen_of (span_end b c p) true (Spline (Span c p))) (line_to (span_start a b c) ∷ span_of b c p ∷ [])
+spline_point cur opened (Three a b c) p = gives (pen_of (span_end b c p) true (Spline (Span c p))) (LineTo (span_start a b c) ∷ span_of b c p ∷ [])
 spline_point cur opened (Span b c) p = span_gives b c p
 
 abbrev pub by_mode : Mode → Pen → Point → Gives
 by_mode Idle pen p = gives pen []
-by_mode Lines pen p = gives (pen_of p true Lines) (line_to p ∷ [])
+by_mode Lines pen p = gives (pen_of p true Lines) (LineTo p ∷ [])
 by_mode Cubics pen p = gives pen []
 by_mode (Spline c) pen p = spline_point pen.cur pen.opened c p
 
@@ -159,7 +159,7 @@ pointed_by pen (point p rest) ts = behind (on_point pen p) rest
 
 abbrev pub curve_by : Pen → Read3 → List Token → Turn
 curve_by pen none3 ts = turned pen [] ts
-curve_by pen (points p q r rest) ts = turned (pen_of r true Cubics) (cubic_to p q r ∷ []) rest
+curve_by pen (points p q r rest) ts = turned (pen_of r true Cubics) (CubicTo p q r ∷ []) rest
 
 -- a point, or one token less; `all` is the tokens, ts those behind the first
 abbrev pub pointed : Float → Pen → List Token → List Token → Turn
@@ -194,11 +194,11 @@ continues (Spline c) b = eqb b 112
 
 -- 01: "`m` closes an open subpath, `n` does not"
 abbrev pub closes_first : Bool → Bool → List PathCommand
-closes_first closes opened = pick (pick closes opened false) (closed ∷ []) []
+closes_first closes opened = pick (pick closes opened false) (Closed ∷ []) []
 
 abbrev pub moves_by : Bool → Pen → Read1 → List Token → Turn
 moves_by closes pen none1 ts = turned pen [] ts
-moves_by closes pen (point p rest) ts = turned (pen_of p false Lines) (closes_first closes pen.opened ++ (move_to p ∷ [])) rest
+moves_by closes pen (point p rest) ts = turned (pen_of p false Lines) (closes_first closes pen.opened ++ (MoveTo p ∷ [])) rest
 
 -- a move to the next point; without one nothing changes
 abbrev pub moves_to : Bool → Float → Pen → List Token → Turn
@@ -216,7 +216,7 @@ command Cubic k pen ts = turned (pen_of pen.cur pen.opened Cubics) [] ts
 -- s: (S) a uniform cubic B-spline, at least three points, which p extends. (L) p is passed over, the spline goes on
 command Basis k pen ts = turned (pen_of pen.cur pen.opened (Spline (One pen.cur))) [] ts
 -- c: (S) closes the spline, (L) joins its first three points at its end; the Rust closes the path: a difference
-command Close k pen ts = turned (pen_of pen.cur false Idle) (closed ∷ []) ts
+command Close k pen ts = turned (pen_of pen.cur false Idle) (Closed ∷ []) ts
 -- any other letter: it and all up to the next letter are passed over
 command Unknown k pen ts = turned pen [] (until_letter ts)
 

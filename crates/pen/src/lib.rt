@@ -1,12 +1,12 @@
 // The pen, what a letter can ask of it, and splines that draw as their control points come.
 #![tactic(auto)]
 
-ghost use Rattle.std.specs.Prelude.{◌≡◌, [], ◌∷◌, ◌<◌};
-ghost use Rattle.pen.specs.Drawing.{bez as bez_of, span_of, span_gives, spline_point, settled as settled_pen};
-ghost use Rattle.path.specs.Inner.{Emits};
-ghost use Rattle.pen.specs.Inner.{Stroked};
+ghost use Rattle.std.specs.Prelude.{◌≡◌, ◌<◌};
+ghost use Rattle.path.specs.Inner.{Begins};
+ghost use Rattle.pen.specs.Drawing.{bez as bez_of, span_gives, spline_point, settled as settled_pen, start};
+ghost use Rattle.pen.specs.Inner.{Strokes};
 
-use path::{Point, cubic_to, line_to};
+use path::{PathCommand, PathWriter, Point};
 
 // A spline's control points: one, two or three that have drawn nothing yet, or the last two behind a span.
 #[derive(Clone, Copy, Drop)]
@@ -34,6 +34,22 @@ pub struct Pen {
     pub mode: Mode,
 }
 
+impl Pen {
+    // A spline takes no further points.
+    pub fn settled(self) -> Pen
+        ensures { result ≡ settled_pen self }
+    {
+        if let Mode::Spline(_) = self.mode {
+            Pen {
+                mode: Mode::Idle,
+                ..self
+            }
+        } else {
+            self
+        }
+    }
+}
+
 // What a letter asks for.
 #[derive(Clone, Copy, Drop)]
 pub enum Command {
@@ -46,13 +62,6 @@ pub enum Command {
     Unknown,
 }
 
-// A pen and the commands so far.
-#[derive(Clone, Copy, Drop)]
-pub struct Stroke {
-    pub pen: Pen,
-    pub n: usize,
-}
-
 // A weighted sum of three points, divided by 6, in the order of Rust's `bez`.
 fn bez(a: Point, wa: f32, b: Point, wb: f32, c: Point, wc: f32) -> Point
     ensures { result ≡ bez_of a wa b wb c wc }
@@ -63,86 +72,59 @@ fn bez(a: Point, wa: f32, b: Point, wb: f32, c: Point, wc: f32) -> Point
     }
 }
 
-// The cubic of the span between b and c.
-fn span_to(b: Point, c: Point, d: Point, n: usize, path: &mut [u32]) -> usize
-    requires { n < 65536 }
-    ensures { Emits path.old n (span_of b c d ∷ []) result path.new }
-{
-    let p = bez(b, 4.0, c, 2.0, c, 0.0);
-    let q = bez(b, 2.0, c, 4.0, c, 0.0);
-    let r = bez(b, 1.0, c, 4.0, d, 1.0);
-    cubic_to(p, q, r, n, path)
+// A pen, and the path that it draws.
+#[derive(Drop)]
+pub struct Stroke<'a> {
+    pub pen: Pen,
+    pub path: PathWriter<'a>,
 }
 
-// A spline's next span, between b and c.
-fn spline_span(b: Point, c: Point, p: Point, n: usize, path: &mut [u32]) -> Stroke
-    requires { n < 65536 }
-    ensures { Stroked path.old n (span_gives b c p) result path.new }
-{
-    let m = span_to(b, c, p, n, path);
-    let cur = bez(b, 1.0, c, 4.0, p, 1.0);
-    let mode = Mode::Spline(Ctrl::Span(c, p));
-    Stroke {
-        pen: Pen {
-            cur,
-            opened: true,
-            mode,
-        },
-        n: m,
-    }
-}
-
-// One control point more.
-pub fn spline_point(
-    cur: Point,
-    opened: bool,
-    ctrl: Ctrl,
-    p: Point,
-    n: usize,
-    path: &mut [u32],
-) -> Stroke
-    requires { n < 65000 }
-    ensures { Stroked path.old n (spline_point cur opened ctrl p) result path.new }
-{
-    match ctrl {
-        Ctrl::One(a) => {
-            let mode = Mode::Spline(Ctrl::Two(a, p));
-            Stroke {
-                pen: Pen { cur, opened, mode },
-                n,
-            }
-        }
-        Ctrl::Two(a, b) => {
-            let mode = Mode::Spline(Ctrl::Three(a, b, p));
-            Stroke {
-                pen: Pen { cur, opened, mode },
-                n,
-            }
-        }
-        Ctrl::Three(a, b, c) => {
-            let m = line_to(bez(a, 1.0, b, 4.0, c, 1.0), n, path);
-            spline_span(b, c, p, m, path)
-        }
-        Ctrl::Span(b, c) => spline_span(b, c, p, n, path),
-    }
-}
-
-// A spline takes no further points.
-pub fn settled(pen: Pen) -> Pen
-    ensures { result ≡ settled_pen pen }
-{
-    let mode = pen.mode;
-    match mode {
-        Mode::Idle => pen,
-        Mode::Lines => pen,
-        Mode::Cubics => pen,
-        Mode::Spline(_) => {
-            let cur = pen.cur;
-            Pen {
-                cur,
-                opened: pen.opened,
+impl<'a> Stroke<'a> {
+    // A pen at the origin, which has drawn nothing.
+    pub fn new(words: &'a mut [u32]) -> Stroke<'a>
+        ensures pen { result.pen ≡ start }
+        ensures path { Begins words.entry result.path }
+    {
+        Stroke {
+            pen: Pen {
+                cur: Point { x: 0.0, y: 0.0 },
+                opened: false,
                 mode: Mode::Idle,
+            },
+            path: PathWriter::new(words),
+        }
+    }
+
+    // A spline's next span, between b and c.
+    fn span(&mut self, b: Point, c: Point, p: Point)
+        requires { self.old.path.count < 65536 }
+        ensures { Strokes self.old (span_gives b c p) self.new }
+    {
+        let q = bez(b, 4.0, c, 2.0, c, 0.0);
+        let r = bez(b, 2.0, c, 4.0, c, 0.0);
+        let end = bez(b, 1.0, c, 4.0, p, 1.0);
+        self.path.push(PathCommand::CubicTo(q, r, end));
+        self.pen = Pen {
+            cur: end,
+            opened: true,
+            mode: Mode::Spline(Ctrl::Span(c, p)),
+        };
+    }
+
+    // A spline's next control point.
+    pub fn spline_point(&mut self, ctrl: Ctrl, p: Point)
+        requires { self.old.path.count < 65000 }
+        ensures { Strokes self.old (spline_point self.old.pen.cur self.old.pen.opened ctrl p) self.new }
+    {
+        match ctrl {
+            Ctrl::One(a) => self.pen.mode = Mode::Spline(Ctrl::Two(a, p)),
+            Ctrl::Two(a, b) => self.pen.mode = Mode::Spline(Ctrl::Three(a, b, p)),
+            Ctrl::Three(a, b, c) => {
+                self.path
+                    .push(PathCommand::LineTo(bez(a, 1.0, b, 4.0, c, 1.0)));
+                self.span(b, c, p);
             }
+            Ctrl::Span(b, c) => self.span(b, c, p),
         }
     }
 }
