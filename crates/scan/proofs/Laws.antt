@@ -11,7 +11,7 @@ use lib.ListN.{get_or}
 use lib.Dec.{eqb, ltb}
 use borrow.Author.Tests.{eq-eqb, ne_eqb, lt-ltb, le-ltb, le-leb, lt-leb, ltb-true}
 use Rattle.scan.specs.Inner.{Passed}
-use Rattle.scan.specs.Scan.{pick, digit_of, digit, is_blank, blank_at, blank_before, span, span_to, back, back_to, skip, skip_to, skip_back, trim_end, opened, closing, closing_to}
+use Rattle.scan.specs.Scan.{pick, digit_of, is_blank, blank_at, blank_before, span, span_to, back, back_to, skip, skip_to, skip_back, trim_end, opened, closing, closing_to}
 
 pub more : (i e : ℕ) → i < e → e - i ≡ suc (e - (i + 1))
 more i e h = omega arith
@@ -276,11 +276,3 @@ no-decimal b z =
     (λ (l : b < 71). ⊎_elim (λ (m : 65 ≤ b). rw (← digit_upper b m (omega arith)) (omega arith))
     (λ (m : b < 65). rw (← digit-between b z m) (omega arith))
     (le_or_lt 65 b)) (le_or_lt 71 b)) (le_or_lt 97 b)) (le_or_lt 103 b)
-
--- the digits of a radix up to ten
-pub digit_radix : (b radix : ℕ) → radix ≤ 10 → 48 ≤ b → ltb (b - 48) radix ≡ digit radix b
-digit_radix b radix h l =
-    ⊎_elim
-    (λ (k : b ≤ 57). rw (← digit-decimal b l k))
-    (λ (k : 57 < b). let z : radix ≤ digit_of b = omega (arith, no-decimal b k) in rw (le-ltb (b - 48) radix (omega arith), le-ltb (digit_of b) radix z))
-    (le_or_lt b 57)

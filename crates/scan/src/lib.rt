@@ -13,38 +13,19 @@ pub use crate::class::{Below, Class, Digit, Either, Is, Letter, Neither, Not};
 pub fn lower(b: u8) -> u8
     ensures { result ≡ lower_of b }
 {
-    if b < 65 {
-        return b;
-    }
-    if b <= 90 {
-        return b + 32;
-    }
-    b
+    b.to_ascii_lowercase()
 }
 
 // The value of a hexadecimal digit of either case, and 16 for any other byte.
 pub fn digit_of(b: u8) -> u8
     ensures { result ≡ digit_of b }
 {
-    if b < 48 {
-        return 16;
+    match b {
+        b'0'..=b'9' => b - b'0',
+        b'A'..=b'F' => b - b'A' + 10,
+        b'a'..=b'f' => b - b'a' + 10,
+        _ => 16,
     }
-    if b <= 57 {
-        return b - 48;
-    }
-    if b < 65 {
-        return 16;
-    }
-    if b <= 70 {
-        return b - 55;
-    }
-    if b < 97 {
-        return 16;
-    }
-    if b <= 102 {
-        return b - 87;
-    }
-    16
 }
 
 // A bound of the bytes between two places: the highest.
@@ -100,36 +81,29 @@ pub fn span_back<C: Class>(text: &[u8], class: C, from: usize, to: usize) -> usi
 pub fn is_blank(b: u8) -> bool
     ensures { result ≡ is_blank b }
 {
-    if b > 32 {
-        return false;
-    }
-    b == 32 || (b >= 9 && b <= 13)
+    matches!(b, b'\t'..=b'\r' | b' ')
 }
 
 // The width of the blank that starts at i, 0 where none does.
+#[tactic(auto, unfolding(crate::specs::Scan::blank_at))]
 pub fn blank_at(text: &[u8], i: usize, to: usize) -> usize
     requires { (i ≤ to) × (to ≤ length text.now) }
     ensures { (result ≡ blank_at text.now i to) × (i + result ≤ to) }
 {
-    if i < to {
-        if is_blank(text[i]) {
-            return 1;
-        }
-    }
-    0
+    if i < to && is_blank(text[i]) { 1 } else { 0 }
 }
 
 // The width of the blank that ends at e, 0 where none does.
+#[tactic(auto, unfolding(crate::specs::Scan::blank_before))]
 pub fn blank_before(text: &[u8], from: usize, e: usize) -> usize
     requires { (from ≤ e) × (e ≤ length text.now) }
     ensures { (result ≡ blank_before text.now from e) × (from + result ≤ e) }
 {
-    if from < e {
-        if is_blank(text[e - 1]) {
-            return 1;
-        }
+    if from < e && is_blank(text[e - 1]) {
+        1
+    } else {
+        0
     }
-    0
 }
 
 // Where the text between two places begins once its leading blanks are dropped.
@@ -178,12 +152,10 @@ fn opened(b: u8, k: usize) -> usize
     requires { (0 < k) × (k < 2 ^ 63) }
     ensures { (result ≡ opened_by b k) × (result ≤ k + 1) }
 {
-    if b == 40 {
-        k + 1
-    } else if b == 41 {
-        k - 1
-    } else {
-        k
+    match b {
+        b'(' => k + 1,
+        b')' => k - 1,
+        _ => k,
     }
 }
 
@@ -223,7 +195,7 @@ pub fn closing(text: &[u8], from: usize, to: usize) -> usize
     let mut i = from;
     let mut k: usize = 1;
     while i < to {
-        i = clear(text, 41, i, to);
+        i = clear(text, b')', i, to);
         if i < to {
             k = opened(text[i], k);
             if k == 0 {
