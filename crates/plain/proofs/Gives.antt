@@ -10,11 +10,11 @@ use lib.Ieee.{Float}
 use lib.ListN.{length, get_or}
 use borrow.Author.Tests.{lt-leb, ne_eqb}
 use Rattle.scan.specs.Scan.{pick, trim_start, trim_end}
-use Rattle.numeral.specs.Numeral.{F32, too_long_lem, number, f32_at, I32, whole, word_of_f32, word_of_i32}
+use Rattle.numeral.specs.Numeral.{F32, too_long, too_long_lem, number, f32_at, I32, whole, word_of_f32, word_of_i32}
 use Rattle.lists.specs.Lists.{Stretch, first_of}
-use Rattle.lists.specs.Inner.{items, long_of, first_long}
+use Rattle.lists.specs.Inner.{items, first_long}
 use Rattle.lists.specs.declared.Numbers.{Numbers}
-use Rattle.lists.specs.declared.Found.{Found}
+use Rattle.std.specs.Prelude.{Option}
 use Rattle.tag.specs.declared.Record.{Record}
 use Rattle.tag.specs.Tag.{AnimatedTag, R, plain, named}
 use Rattle.tag.specs.Table.{rec, head, records, two_floats, one_number, flag_word}
@@ -67,7 +67,7 @@ gives_none false = nothing
 
 -- a numeral that is too long comes first
 module _ (k : Kept) (o : One) where
-  long_step : (y : F32) (l : List F32) (f : Found) → Gives (long_or f k) (unless_long l o) → Gives (long_or (first_of (long_of (word_of_f32 y)) f) k) (unless_long (y ∷ l) o)
+  long_step : (y : F32) (l : List F32) (f : Option ℕ) → Gives (long_or f k) (unless_long l o) → Gives (long_or (first_of (too_long (word_of_f32 y)) f) k) (unless_long (y ∷ l) o)
   unfolding unless_long
   long_step F32.none l f g = g
   long_step (too_long_lem p) l f g = late p

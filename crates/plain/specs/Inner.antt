@@ -9,8 +9,6 @@ use Rattle.numeral.specs.Numeral.{f32_at, i32_at, word_of_f32, word_of_i32}
 use Rattle.numeral.specs.declared.Numeral.{Numeral}
 use Rattle.numeral.specs.declared.Numeral.TheVariants.{No, TooLong, Word}
 use Rattle.lists.specs.Inner.{items_to, numbers_of}
-use Rattle.lists.specs.declared.Found.{Found}
-use Rattle.lists.specs.declared.Found.TheVariants.{Nowhere, At}
 use Rattle.lists.specs.declared.Numbers.{Numbers}
 use Rattle.colour.specs.Colour.{alpha_at, colour_at}
 use Rattle.colour.specs.declared.Rgb as C
@@ -80,9 +78,9 @@ baseline_word w = to_word (round_away (of_bits binary32 w))
 abbrev pub cut_word : ℕ → ℕ
 cut_word w = to_word (to_signed 31 (of_bits binary32 w))
 
-abbrev pub long_or : Found → Kept → Kept
-long_or Nowhere k = k
-long_or (At p) k = Kept.Long p
+abbrev pub long_or : Option ℕ → Kept → Kept
+long_or None k = k
+long_or (Some p) k = Kept.Long p
 
 abbrev pub nth_word : List ℕ → ℕ → ℕ
 nth_word w n = get_or w n 0

@@ -157,13 +157,11 @@ pub fn time_of(w: u32) -> u32
     float::to_word(float::cut(float::f32_of_word(w)))
 }
 
-fn long_or(l: lists::Found, k: Kept) -> Kept
+// A numeral that is too long comes before what its list makes.
+fn long_or(l: Option<usize>, k: Kept) -> Kept
     ensures { result ≡ long_or l k }
 {
-    match l {
-        lists::Found::At(p) => Kept::Long(p),
-        lists::Found::Nowhere => k,
-    }
+    l.map_or(k, Kept::Long)
 }
 
 #[tactic(auto, unfolding(crate::specs::Inner::pair_tag))]
