@@ -1,31 +1,16 @@
--- One record's own marks, by its kind; and the records as they stand in a table.
+-- One record's own marks, by its kind.
 use mathlib.Core.Path.{◌≡◌, refl, sym, ap, ◌∙◌}
 use mathlib.Core.List.{List, [], ◌∷◌, ◌++◌, map}
-use Prim.Native.Nat.{ℕ, zero, suc, ◌+◌}
+use Prim.Native.Nat.{ℕ, zero, suc}
 use native.Mathlib.Omega.{arith}
 use lib.IntN.{ℤ}
-use lib.ListN.{get_or, drop, replicate, get_or-map}
-use lib.Seq.{get_or-drop}
+use lib.ListN.{get_or, replicate, get_or-map}
+use Rattle.std.specs.Prelude.{Option, None}
 use Rattle.tag.specs.declared.Record.{Record}
 use Rattle.tag.specs.Tag.{AnimatedTag, Fad}
-use Rattle.tag.specs.Table.{rec}
-use Rattle.tag.specs.WellFormed.{record_at}
 use Rattle.tag.specs.Decode.{z, times_of, decoders, nothing, decode_one}
-use Rattle.marks.specs.declared.Mark.{Mark}
 use Rattle.marks.specs.Marks.{Interval, way, stage, own_marks, after_in, least, first_after}
-use Rattle.marks.proofs.After.{least-none}
-
--- ---- the record whose first word stands at i
-
-abbrev pub record_from : List ℕ → ℕ → Record
-record_from t i = rec (get_or t i 0) (get_or t (i + 1) 0) (get_or t (i + 2) 0) (get_or t (i + 3) 0) (get_or t (i + 4) 0) (get_or t (i + 5) 0) (get_or t (i + 6) 0) (get_or t (i + 7) 0)
-
-pub record-from : (t : List ℕ) (i : ℕ) → record_at (drop i t) ≡ record_from t i
-record-from t i =
-    let e : i + 0 ≡ i = omega arith in
-    let w : (k : ℕ) → get_or (drop i t) k 0 ≡ get_or t (i + k) 0 = λ k. get_or-drop i t k 0 in
-    let k : get_or (drop i t) 0 0 ≡ get_or t i 0 = w 0 ∙ ap (λ (j : ℕ). get_or t j 0) e in
-    λ x. rec (k x) (w 1 x) (w 2 x) (w 3 x) (w 4 x) (w 5 x) (w 6 x) (w 7 x)
+use Rattle.marks.proofs.Laws.{least-none}
 
 -- ---- by kind
 
@@ -57,7 +42,7 @@ module _ (t dur : ℤ) (r : Record) where
       sym (get_or-map (λ (f : Record → AnimatedTag). own_marks dur (f r)) (nothing ∷ decoders) r.kind nothing)
       ∙ ap (λ (l : List (List Interval)). get_or l r.kind []) own_all
 
-  abbrev next : Mark
+  abbrev next : Option ℤ
   next = first_after t (own_marks dur (decode_one r))
 
   pub own_fad : r.kind ≡ 1 → next ≡ first_after t (own_marks dur (Fad r.w1 r.w2))
@@ -88,7 +73,7 @@ module _ (t dur : ℤ) (r : Record) where
     pub no_move : r.kind ≡ 4 → ⊥
     pub no-t : r.kind ≡ 49 → ⊥
 
-  pub own_none : Quiet → next ≡ Mark.None
+  pub own_none : Quiet → next ≡ None
   unfolding first_after
   own_none q = ap (first_after t) (own ∙ go r.kind refl)
     where

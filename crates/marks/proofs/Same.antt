@@ -10,13 +10,13 @@ use lib.IntN.{ℤ, pos, negsuc, ◌-ℤ◌}
 use lib.Ieee.{Float, binary32, mul}
 use lib.Signed.{◌≤ℤ◌, ◌<ℤ◌}
 use borrow.Author.Tests.{le-ltb, le-leb, lt-leb, eq-eqb, ne_eqb}
+use Rattle.std.specs.Prelude.{Some}
 use Rattle.scan.proofs.Laws.{le_or_lt}
 use Rattle.float.specs.Float as F
 use Rattle.float.specs.Float.{one, clamp}
 use Rattle.tag.specs.Tag.{Times, AnimatedTag, Fad, Fade, Pos, Move, Frz, Blur, Fscx, Fscy, Color1, Fs, ClipRect, ClipDrawing, Frx, Fry, Org, Bord, Xbord, Ybord, Shad, Xshad, Yshad, Be, Fax, Fay, IClipRect, IClipDrawing, Color2, Color3, Color4, Alpha, Alpha1, Alpha2, Alpha3, Alpha4, Fsp, Q, An, A, Fn, Fe, R, B, I, U, S, Karaoke, Pbo, P, T, Tags, none, and, inside}
 use Rattle.tag.proofs.Tags.{fold_own, tags-all}
 use Rattle.state.specs.declared.RenderState.{RenderState}
-use Rattle.state.specs.declared.OptPair.{OptPair}
 use Rattle.state.specs.State.{identity, with_always, with_places, set_translate}
 use Rattle.state.specs.Mix.{quotient, start_of, end_of, accel_of, bent, held, factor, cut_between, mix_pair, between}
 use Rattle.state.specs.Mix as Mix
@@ -119,7 +119,7 @@ module _ (dur t u : ℤ) (le : t ≤ℤ u) where
   own_still (Fad t1 t2) quiet f g e st = ap (λ (m : Float). with_always st (faded st.always m)) (fad_still t u le t1 t2 dur quiet)
   own_still (Fade a1 a2 a3 t1 t2 t3 t4) quiet f g e st = ap (λ (m : ℕ). with_always st (faded st.always (alpha_to_mul m))) (fade_still t u le (byte a1) (byte a2) (byte a3) t1 t2 t3 t4 (min-le_right a1 255) (min-le_right a2 255) (min-le_right a3 255) (λ a w. quiet a (here w)) (λ a w. quiet a (later (here w))))
   own_still (Pos x y) quiet f g e st = refl
-  own_still (Move x1 y1 x2 y2 x) quiet f g e st = ap (λ (k : Float). with_places st (set_translate st.places (OptPair.Some (mix_pair (pair x1 y1) (pair x2 y2) k)))) (way_still t u le x dur (λ a w. quiet a (here w)))
+  own_still (Move x1 y1 x2 y2 x) quiet f g e st = ap (λ (k : Float). with_places st (set_translate st.places (Some (mix_pair (pair x1 y1) (pair x2 y2) k)))) (way_still t u le x dur (λ a w. quiet a (here w)))
   own_still (Frz x) quiet f g e st = refl
   own_still (Blur x) quiet f g e st = refl
   own_still (Fscx x) quiet f g e st = refl

@@ -3,21 +3,20 @@ use mathlib.Core.Path.{◌≡◌, refl, ◌∙◌}
 use mathlib.Core.List.{List}
 use Prim.Native.Nat.{ℕ}
 use lib.IntN.{ℤ}
+use Rattle.std.specs.Prelude.{Option, None, Ok, Err}
+use Rattle.std.specs.Result.{result_and}
 use Rattle.refusal.specs.Answer.{Stands}
-use Rattle.refusal.specs.declared.Checked.{Checked}
-use Rattle.refusal.specs.declared.Checked.TheVariants.{Good, Bad}
+use Rattle.refusal.specs.Refusal.{Checked}
 use Rattle.tag.specs.Decode.{tags_of}
 use Rattle.table.specs.Ground.{call_ground, Fine}
 use Rattle.table.proofs.Grounds.{fine-good}
-use Rattle.marks.specs.declared.Mark.{Mark}
-use Rattle.marks.specs.declared.Marked.{Marked}
 use Rattle.marks.specs.Marks.{next_mark}
-use Rattle.marks.specs.Answer.{marked_or, marked_to, marked, ground_of, mark_of, MarkStands, Exact}
+use Rattle.marks.specs.Answer.{Marked, marked_to, marked, ground_of, mark_of, MarkStands, Exact}
 use Rattle.marks.proofs.Earliest.{next-earliest}
 
-stands : (c : Checked) (m : Mark) → Stands c Mark.None m (ground_of (marked_or c m)) (mark_of (marked_or c m))
-stands Good m = record { ground = refl; value = refl }
-stands (Bad r) m = record { ground = refl; value = refl }
+stands : (c : Checked) (m : Option ℤ) → Stands c None m (ground_of (result_and c (Ok m))) (mark_of (result_and c (Ok m)))
+stands (Ok _) m = record { ground = refl; value = refl }
+stands (Err r) m = record { ground = refl; value = refl }
 
 pub told : (ws : List ℕ) (t dur : ℤ) (r : Marked) → r ≡ marked ws t dur → (r ≡ marked ws t dur) × (MarkStands ws t dur r × (Fine ws t dur → Exact ws t dur r))
 unfolding marked_to

@@ -1,12 +1,11 @@
 -- 01, Marks: whole milliseconds at which the state may change. They are kept as intervals: no list of milliseconds is built.
-use Rattle.std.specs.Prelude.{ℕ, ◌-◌, List, [], ◌∷◌, ◌++◌, ltb, ℤ, pos, ◌≤ℤ◌, ◌<ℤ◌}
+use Rattle.std.specs.Prelude.{ℕ, ◌-◌, List, [], ◌∷◌, ◌++◌, ltb, ℤ, pos, ◌≤ℤ◌, ◌<ℤ◌, Option, Some, None}
 use Rattle.std.proofs.Math.IntN.{suc_ℤ}
 use Rattle.std.specs.Int.Signed.{le_z}
 use Rattle.scan.specs.Scan.{pick}
 use Rattle.tag.specs.Tag.{Times, AnimatedTag, Fad, Fade, Pos, Move, Frz, Blur, Fscx, Fscy, Color1, Fs, ClipRect, ClipDrawing, Frx, Fry, Org, Bord, Xbord, Ybord, Shad, Xshad, Yshad, Be, Fax, Fay, IClipRect, IClipDrawing, Color2, Color3, Color4, Alpha, Alpha1, Alpha2, Alpha3, Alpha4, Fsp, Q, An, A, Fn, Fe, R, B, I, U, S, Karaoke, Pbo, P, T, Tags, fold_tags}
 use Rattle.state.specs.Mix.{start_of, end_of}
 use Rattle.state.specs.Apply.{from_zero_lem}
-use Rattle.marks.specs.declared.Mark.{Mark}
 
 -- the marks from the first to the last, none where the last comes before the first
 pub record Interval : Type 0 where
@@ -106,23 +105,23 @@ NoMark l t u = (a : ℤ) → IsMark l a → t <ℤ a → a ≤ℤ u → ⊥
 -- ---- the earliest later one
 
 -- of an interval: where it begins, or the millisecond after t where it has begun
-abbrev pub after_in : ℤ → Interval → Mark
-after_in t i = pick (le_z i.begins t) (pick (le_z i.ends t) Mark.None (Mark.At (suc_ℤ t))) (pick (le_z i.begins i.ends) (Mark.At i.begins) Mark.None)
+abbrev pub after_in : ℤ → Interval → Option ℤ
+after_in t i = pick (le_z i.begins t) (pick (le_z i.ends t) None (Some (suc_ℤ t))) (pick (le_z i.begins i.ends) (Some i.begins) None)
 
-abbrev pub least : Mark → Mark → Mark
-least Mark.None m = m
-least (Mark.At a) Mark.None = Mark.At a
-least (Mark.At a) (Mark.At b) = pick (le_z a b) (Mark.At a) (Mark.At b)
+abbrev pub least : Option ℤ → Option ℤ → Option ℤ
+least None m = m
+least (Some a) None = Some a
+least (Some a) (Some b) = pick (le_z a b) (Some a) (Some b)
 
-unfoldable pub first_after : ℤ → List Interval → Mark
-first_after t [] = Mark.None
+unfoldable pub first_after : ℤ → List Interval → Option ℤ
+first_after t [] = None
 first_after t (i ∷ l) = let m = first_after t l in least (after_in t i) m
 
-unfoldable pub next_mark : ℤ → ℤ → Tags → Mark
+unfoldable pub next_mark : ℤ → ℤ → Tags → Option ℤ
 unfolding first_after marks
 next_mark t dur l = first_after t (marks dur l)
 
 -- what "the earliest later mark" means of an answer
-pub data Earliest (l : List Interval) (t : ℤ) : Mark → Type 0 where
-  soonest : {a : ℤ} → IsMark l a → t <ℤ a → ((b : ℤ) → IsMark l b → t <ℤ b → a ≤ℤ b) → Earliest l t (Mark.At a)
-  never : ((b : ℤ) → IsMark l b → t <ℤ b → ⊥) → Earliest l t Mark.None
+pub data Earliest (l : List Interval) (t : ℤ) : Option ℤ → Type 0 where
+  soonest : {a : ℤ} → IsMark l a → t <ℤ a → ((b : ℤ) → IsMark l b → t <ℤ b → a ≤ℤ b) → Earliest l t (Some a)
+  never : ((b : ℤ) → IsMark l b → t <ℤ b → ⊥) → Earliest l t None

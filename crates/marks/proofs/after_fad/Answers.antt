@@ -1,68 +1,46 @@
-use mathlib.Core.Path.{◌≡◌, sym, ap, ◌∙◌}
-use Prim.Native.Nat.{ℕ, ◌-◌, ◌≤◌, min}
-use native.Mathlib.Omega.{arith}
-use lib.IntN.{pos}
+use Rattle.std.proofs.Common.{arith, ◌≡◌, sym, ap, ◌∙◌, ◌-◌, ◌≤◌, pos, min, nat_abs, negsuc}
+use Rattle.std.proofs.lemmas.Int.{ints, to_z-of_z}
 use mir.Syntax.{w32}
 use mir.Val.{to_z, of_z}
-use mir.Facts.{to_z-of_z}
 use Rattle.state.specs.Apply.{from_zero_lem}
 use Rattle.marks.specs.Marks.{ramp, after_in, least}
-use Rattle.marks.specs.Inner.{most, early_marks}
-use Rattle.marks.proofs.After.{rise_capped, from_zero-most, fad-early, fad-late}
+use Rattle.marks.specs.Inner.{most}
+use Rattle.marks.proofs.After.{rise_capped, rise, fall, fad-early, fad-late}
 use Rattle.marks.proofs.after_fad.Goals as goal
-use Rattle.marks.proofs.after_fad.Lts.{After-after_ramp2, Start}
-use Rattle.marks.proofs.after_fad.Tie.{the-claims}
-use Rattle.marks.proofs.after_fad.Reads.{Pre, Post}
+use Rattle.marks.proofs.after_fad.Goals.{After-least-next}
 
-module _ (c : After-after_ramp2 the-claims Pre Post) where
-  abbrev s : Start the-claims Pre Post
-  s = c.before.before.before.before.before.before.before
+module _ (c : After-least-next) where
+  now : to_z w32 (of_z w32 c.args.t) ≡ c.args.t
+  now = to_z-of_z w32 c.args.t c.ranges.t
 
-  abbrev d : ℕ
-  d = from_zero_lem s.args.dur
+  d : to_z w32 (of_z w32 c.max-d.result) ≡ pos (from_zero_lem c.args.dur)
+  d = grind (arith, ints)
 
-  now : to_z w32 (of_z w32 s.args.t) ≡ s.args.t
-  now = to_z-of_z {w = w32} s.ranges.t
+  pub lasts : nat_abs (to_z w32 (of_z w32 c.max-d.result)) ≡ from_zero_lem c.args.dur
+  lasts = ap nat_abs d
 
-  rise : c.after_ramp-rise.result ≡ after_in s.args.t (ramp (pos 0) (pos s.args.t1))
-  rise =
-      let w = c.capped in
-      let b = to_z-of_z {w = w32} (record { sfits = w.type_inv }) ∙ w.ensures in
-      c.after_ramp-rise.ensures
-      ∙ (λ i. after_in (now i) (ramp (pos 0) (b i)))
-      ∙ rise_capped s.args.t s.args.t1 s.requires
+  small : from_zero_lem c.args.dur ≤ most
+  small = grind (arith, ints)
 
-  lasts : c.from_zero-d.result ≡ d
-  lasts = c.from_zero-d.ensures ∙ ap from_zero_lem (to_z-of_z {w = w32} s.ranges.dur)
+  rises : to_z w32 c.min.result ≡ pos (min c.args.t1 most)
+  rises = omega (arith, ints, c.min.ensures)
 
-  small : d ≤ most
-  small = from_zero-most s.args.dur s.ranges.dur
+  falls : to_z w32 c.saturating_sub.result ≡ pos (from_zero_lem c.args.dur - c.args.t2)
+  falls = omega (arith, ints, c.saturating_sub.ensures, lasts, small)
 
-  from : to_z w32 (of_z w32 c.capped-2.result) ≡ pos (d - s.args.t2)
-  from =
-      let w = c.capped-2 in
-      let n : min c.less.result most ≡ d - s.args.t2 = omega (arith, c.less.ensures, lasts, small) in
-      to_z-of_z {w = w32} (record { sfits = w.type_inv }) ∙ w.ensures ∙ ap pos n
+  pub both : c.least-next.result ≡ least (rise c.args.t c.args.dur c.args.t1 c.args.t2) (fall c.args.t c.args.dur c.args.t1 c.args.t2)
+  both =
+      c.least-next.ensures
+      ∙ (λ i. least ((c.after_ramp-rise.ensures ∙ (λ j. after_in (now j) (ramp (pos 0) (rises j))) ∙ rise_capped c.args.t c.args.t1 c.requires) i) ((c.after_ramp-fall.ensures ∙ (λ j. after_in (now j) (ramp (falls j) (d j)))) i))
 
-  to : to_z w32 (of_z w32 c.capped-3.result) ≡ pos d
-  to =
-      let w = c.capped-3 in
-      let n : min c.from_zero-d.result most ≡ d = omega (arith, lasts, small) in
-      to_z-of_z {w = w32} (record { sfits = w.type_inv }) ∙ w.ensures ∙ ap pos n
+pub returns-then-lasts-t2 : goal.returns-then-lasts-t2
+returns-then-lasts-t2 c =
+    let l = (goal.at.returns-then-lasts-t2 c).After-least-next in
+    c.least.ensures
+    ∙ (λ i. least (both l i) ((c.after_ramp.ensures ∙ (λ j. after_in (now l j) (ramp (negsuc 0) (pos 1)))) i))
+    ∙ sym (fad-early c.args.t c.args.dur c.args.t1 c.args.t2 (omega (arith, lasts l, c.if-lasts-t2.true)))
 
-  fall : c.after_ramp-fall.result ≡ after_in s.args.t (ramp (pos (d - s.args.t2)) (pos d))
-  fall = c.after_ramp-fall.ensures ∙ (λ i. after_in (now i) (ramp (from i) (to i)))
-
-pub returns-then-d-t2 : goal.returns-then-d-t2
-returns-then-d-t2 c =
-    let w = c.before.before.before.before in
-    let e = c.after_early.ensures ∙ (λ i. after_in (now w i) early_marks) in
-    let k = c.least.ensures ∙ (λ i. least (fall w i) (e i)) in
-    c.least-then-d-t2.ensures ∙ (λ i. least (rise w i) (k i))
-    ∙ sym (fad-early (s w).args.t (s w).args.dur (s w).args.t1 (s w).args.t2 (omega (arith, lasts w, c.if-d-t2.true)))
-
-pub returns-else-d-t2 : goal.returns-else-d-t2
-returns-else-d-t2 c =
-    let w = c.before.before in
-    c.least-else-d-t2.ensures ∙ (λ i. least (rise w i) (fall w i))
-    ∙ sym (fad-late (s w).args.t (s w).args.dur (s w).args.t1 (s w).args.t2 (omega (arith, lasts w, c.if-d-t2.false)))
+pub returns-else-lasts-t2 : goal.returns-else-lasts-t2
+returns-else-lasts-t2 c =
+    let l = (goal.at.returns-else-lasts-t2 c).After-least-next in
+    both l ∙ sym (fad-late c.args.t c.args.dur c.args.t1 c.args.t2 (omega (arith, lasts l, c.if-lasts-t2.false)))

@@ -1,64 +1,28 @@
-use mathlib.Core.Path.{sym, ap, subst, ◌∙◌}
-use Prim.Native.Nat.{◌+◌}
-use native.Mathlib.Omega.{arith}
-use lib.IntN.{ℤ, pos}
-use lib.Signed.{◌<ℤ◌}
-use lib.ListN.{drop}
+use Rattle.std.proofs.Common.{sym, ap, ◌∙◌, ◌+◌, arith}
+use Rattle.std.proofs.lemmas.Int.{to_z-of_z}
 use mir.Syntax.{w32}
 use mir.Val.{to_z, of_z}
-use mir.Facts.{to_z-of_z}
-use Rattle.tag.specs.WellFormed.{record_at}
-use Rattle.tag.specs.Decode.{decode_one, tags_of}
-use Rattle.marks.specs.declared.Mark.{Mark}
-use Rattle.marks.specs.Marks.{own_marks, least, first_after, next_mark}
-use Rattle.marks.specs.Inner.{most}
-use Rattle.marks.proofs.After.{least-none}
-use Rattle.marks.proofs.Walk.{least_assoc, from, from_more, from_end, from_start}
+use Rattle.std.specs.Prelude.{Option, ℤ}
+use Rattle.tag.specs.declared.Record.{Record}
+use Rattle.tag.specs.Decode.{decode_one}
+use Rattle.marks.specs.Marks.{own_marks, least, first_after}
+use Rattle.marks.proofs.Laws.{least-none, least_assoc}
+use Rattle.marks.proofs.Walk.{from, from_more, from_end, from_start}
 use Rattle.marks.proofs.next_after.Goals as goal
-use Rattle.marks.proofs.next_after.Lts.{Start}
-use Rattle.marks.proofs.next_after.Tie.{the-claims}
-use Rattle.marks.proofs.next_after.Reads.{Pre, Post}
 
--- the instant and the duration as the code reads them back from their bits
-abbrev now : Start the-claims Pre Post goal.the-invariant-loop-i goal.the-decreases-loop-i → ℤ
-now s = to_z w32 (of_z w32 s.args.t)
+pub loop-at-init : goal.loop-at-init
+loop-at-init c = from_start _ _ c.args.table.now
 
-abbrev lasts : Start the-claims Pre Post goal.the-invariant-loop-i goal.the-decreases-loop-i → ℤ
-lasts s = to_z w32 (of_z w32 s.args.dur)
-
-pub loop-i-init : goal.loop-i-init
-loop-i-init c = let s = c.before.before in (omega arith, from_start (now s) (lasts s) s.args.table.now)
-
-pub overflow_sub-table : goal.overflow_sub-table
-overflow_sub-table c = omega arith
-
-pub after_own-requires : goal.after_own-requires
-after_own-requires c = let s = c.before.before.before.before in (omega arith, subst (λ (x : ℤ). x <ℤ pos most) (sym (to_z-of_z s.ranges.t)) s.requires)
-
-pub overflow_add-i : goal.overflow_add-i
-overflow_add-i c = omega arith
-
-pub loop-i-smaller : goal.loop-i-smaller
-loop-i-smaller c = omega arith
-
-pub loop-i-preserved : goal.loop-i-preserved
-loop-i-preserved c =
-    let s = c.before.before.before.before.before.before in
-    let l = c.loop-i in
-    let rest = from (now s) (lasts s) s.args.table.now (l.i + 8) in
-    let more = from_more (now s) (lasts s) s.args.table.now l.i (omega arith) in (
-      omega arith,
-      ap (λ (m : Mark). least m rest) (c.least-next.ensures ∙ ap (least l.next) c.after_own.ensures)
-          ∙ least_assoc l.next (first_after (now s) (own_marks (lasts s) (decode_one (record_at (drop l.i s.args.table.now))))) rest
-          ∙ ap (least l.next) (sym more)
-          ∙ l.invariant.1,
-    )
+pub loop-at-preserved : goal.loop-at-preserved
+loop-at-preserved c =
+    let l = c.loop-at in
+    let t = to_z w32 (of_z w32 c.args.t) in
+    let dur = to_z w32 (of_z w32 c.args.dur) in
+    let own = c.after_own.ensures ∙ ap (λ (r : Record). first_after t (own_marks dur (decode_one r))) c.record_at.ensures in
+    ap (λ (m : Option ℤ). least m (from t dur c.args.table.now (l.at + 1))) (c.least-next.ensures ∙ ap (least l.next) own)
+    ∙ least_assoc l.next _ _
+    ∙ ap (least l.next) (sym (from_more t dur c.args.table.now l.at (omega arith)))
+    ∙ l.invariant
 
 pub returns : goal.returns
-returns c =
-    let s = c.before.before.before.before in
-    let l = c.loop-i in
-    sym (least-none l.next)
-    ∙ ap (least l.next) (sym (from_end (now s) (lasts s) s.args.table.now l.i (omega arith)))
-    ∙ l.invariant.1
-    ∙ (λ i. next_mark (to_z-of_z s.ranges.t i) (to_z-of_z s.ranges.dur i) (tags_of s.args.table.now))
+returns c = grind (arith, to_z-of_z, least-none, from_end)
