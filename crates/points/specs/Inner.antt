@@ -1,38 +1,37 @@
 -- What the inner functions say, in the code's words: nothing here is a promise to a caller.
-use Rattle.std.specs.Prelude.{◌≡◌, List, ◌∷◌, ℕ, ◌≤◌, ◌<◌, Float, length}
+use Rattle.std.specs.Prelude.{◌≡◌, List, ◌∷◌, ℕ, ◌≤◌, ◌<◌, Float, length, Option, Some, None}
 use Rattle.tokens.specs.declared.Token.{Token}
 use Rattle.tokens.specs.Tokens.{from}
-use Rattle.points.specs.declared.OnePoint.{OnePoint}
-use Rattle.points.specs.declared.OnePoint.TheVariants.{No as NoPoint, At as PointAt}
-use Rattle.points.specs.declared.ThreePoints.{ThreePoints}
-use Rattle.points.specs.declared.ThreePoints.TheVariants.{No as NoThree, At as ThreeAt}
-use Rattle.pen.specs.Drawing.{Read1, none1, point, Read3, none3, points, read_point, read_three}
+use Rattle.path.specs.declared.Point.{Point}
+use Rattle.pen.specs.Drawing.{none1, point, none3, points, read_point, read_three}
 
-abbrev pub read1 : List ℕ → OnePoint → Read1
-read1 s NoPoint = none1
-read1 s (PointAt p j) = point p (from s j)
+-- a point is read at the tokens ts; those behind it are the ones from j on, which lies behind i
+pub record PointIs (s : List ℕ) (k : Float) (ts : List Token) (i : ℕ) (p : Point) (j : ℕ) : Type 0 where
+  pub is : read_point k ts ≡ point p (from s j)
+  pub low : i < j
+  pub high : j ≤ length s
 
-abbrev pub read3 : List ℕ → ThreePoints → Read3
-read3 s NoThree = none3
-read3 s (ThreeAt p q r j) = points p q r (from s j)
-
-abbrev pub Behind1 : ℕ → ℕ → OnePoint → Type 0
-Behind1 i e NoPoint = Unit
-Behind1 i e (PointAt p j) = (i < j) × (j ≤ e)
-
-abbrev pub Behind3 : ℕ → ℕ → ThreePoints → Type 0
-Behind3 i e NoThree = Unit
-Behind3 i e (ThreeAt p q r j) = (i < j) × (j ≤ e)
+abbrev pub PointAt : List ℕ → Float → List Token → ℕ → Option (Point × ℕ) → Type 0
+PointAt s k ts i None = read_point k ts ≡ none1
+PointAt s k ts i (Some r) = PointIs s k ts i r.0 r.1
 
 -- `point_from`: the point that begins with the token t, which ends at j
-pub record PointFrom (s : List ℕ) (k : Float) (t : Token) (j : ℕ) (r : OnePoint) : Type 0 where
-  pub is : read_point k (t ∷ from s j) ≡ read1 s r
-  pub place : Behind1 j (length s) r
+abbrev pub PointFrom : List ℕ → Float → Token → ℕ → Option (Point × ℕ) → Type 0
+PointFrom s k t j r = PointAt s k (t ∷ from s j) j r
 
-pub record ReadsPoint (s : List ℕ) (k : Float) (i : ℕ) (r : OnePoint) : Type 0 where
-  pub is : read_point k (from s i) ≡ read1 s r
-  pub place : Behind1 i (length s) r
+abbrev pub ReadsPoint : List ℕ → Float → ℕ → Option (Point × ℕ) → Type 0
+ReadsPoint s k i r = PointAt s k (from s i) i r
 
-pub record ReadsThree (s : List ℕ) (k : Float) (i : ℕ) (r : ThreePoints) : Type 0 where
-  pub is : read_three k (from s i) ≡ read3 s r
-  pub place : Behind3 i (length s) r
+-- three points are read at the tokens ts; those behind them are the ones from j on, which lies behind i
+pub record PointsAre (s : List ℕ) (k : Float) (ts : List Token) (i : ℕ) (p q r : Point) (j : ℕ) : Type 0 where
+  pub is : read_three k ts ≡ points p q r (from s j)
+  pub low : i < j
+  pub high : j ≤ length s
+
+abbrev pub PointsAt : List ℕ → Float → List Token → ℕ → Option (Point × Point × Point × ℕ) → Type 0
+PointsAt s k ts i None = read_three k ts ≡ none3
+PointsAt s k ts i (Some r) = PointsAre s k ts i r.0 r.1 r.2 r.3
+
+-- `read_three_points`: the points that begin with the token t, which ends at j
+abbrev pub ThreeFrom : List ℕ → Float → Token → ℕ → Option (Point × Point × Point × ℕ) → Type 0
+ThreeFrom s k t j r = PointsAt s k (t ∷ from s j) j r
