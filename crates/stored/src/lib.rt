@@ -1,7 +1,8 @@
 // Lines of a stored list: each names a call and gives its words and its text, in hexadecimal.
 #![tactic(auto)]
 
-ghost use Rattle.std.specs.Prelude.{◌≡◌, ◌+◌, ◌*◌, ◌≤◌, length, get_or};
+ghost use Rattle.std.specs.Prelude.{◌≡◌, ℕ, ◌+◌, ◌*◌, ◌≤◌, ◌<◌, length, get_or};
+ghost use Rattle.std.proofs.Common.{rules};
 ghost use Rattle.stored.specs.Counts.{IsPrefixLen};
 
 use std::io::Read;
@@ -20,10 +21,10 @@ pub const LENT: u32 = 0xA5A5A5A5;
 
 // The next byte of a reader, a line feed at its end.
 fn next_byte<R: Read>(reader: &mut R) -> u8 {
-    let mut byte = [10u8; 1];
+    let mut byte = [0u8; 1];
     match reader.read_exact(&mut byte) {
         Ok(()) => byte[0],
-        Err(_) => 10,
+        Err(_) => b'\n',
     }
 }
 
@@ -31,23 +32,21 @@ fn next_byte<R: Read>(reader: &mut R) -> u8 {
 pub fn read_line<R: Read>(reader: &mut R, line: &mut [u8]) -> usize
     ensures { IsPrefixLen result line.new }
 {
-    let mut n: usize = 0;
-    while n < line.len() {
+    for n in 0..line.len() {
         let b = next_byte(reader);
-        if b == 10 {
+        if b == b'\n' {
             return n;
         }
         line[n] = b;
-        n += 1;
     }
-    n
+    line.len()
 }
 
 // n, but no more than there are.
 pub fn part(n: u32, most: usize) -> usize
     ensures { result ≤ most }
 {
-    scan::least(n as usize, most)
+    most.min(n as usize)
 }
 
 // The byte at a place, 0 where there is none.
@@ -57,68 +56,67 @@ fn byte_at(line: &[u8], p: usize) -> u8
     if p < line.len() { line[p] } else { 0 }
 }
 
-// The byte that two digits give, 2 ^ 32 where they are none.
-fn pair(digits: &[u8], p: usize) -> u64
-    requires { p + 2 ≤ length digits.now }
-    ensures { result ≤ 4294967296 }
-{
-    let a = scan::digit_of(digits[p]);
-    let b = scan::digit_of(digits[p + 1]);
-    if a > 15 {
-        return 4294967296;
-    }
-    if b > 15 {
-        return 4294967296;
-    }
-    a as u64 * 16 + b as u64
+// What a line has in hexadecimal: bytes of two digits, and words of eight with a space behind them.
+trait Digits: Copy {
+    ghost WIDTH: { ℕ };
+
+    const WIDTH: usize;
+
+    // The number whose digits begin at p, if they are digits.
+    fn digits_at(text: &[u8], p: usize) -> Option<Self>
+        requires { p + WIDTH ≤ length text.now };
+
+    ghost wide: { 0 < WIDTH };
 }
 
-// The word that eight digits give, more than any word where they are none or no space is behind them.
-fn word(fields: &[u8], p: usize) -> u64
-    requires { p + 9 ≤ length fields.now }
-{
-    if fields[p + 8] != 32 {
-        return 4294967296;
-    }
-    let a = pair(fields, p);
-    let b = pair(fields, p + 2);
-    let c = pair(fields, p + 4);
-    let d = pair(fields, p + 6);
-    a * 16777216 + b * 65536 + c * 256 + d
-}
+impl Digits for u8 {
+    ghost WIDTH = { 2 };
 
-// Puts the words of some fields into `words`, as far as it goes, and yields how many they are.
-fn words_of(fields: &[u8], words: &mut [u32]) -> usize
-    ensures { IsPrefixLen result words.new × (result * 9 ≤ length fields.now) }
-{
-    let most = scan::least(fields.len() / 9, words.len());
-    let mut i: usize = 0;
-    while i < most {
-        let w = word(fields, i * 9);
-        if w > 4294967295 {
-            return i;
+    const WIDTH: usize = 2;
+
+    fn digits_at(text: &[u8], p: usize) -> Option<u8> {
+        let high = scan::digit_of(text[p]);
+        let low = scan::digit_of(text[p + 1]);
+        if high > 15 || low > 15 {
+            return None;
         }
-        words[i] = w as u32;
-        i += 1;
+        Some(high * 16 + low)
     }
-    i
+
+    ghost wide = { Prim.search rules };
 }
 
-// Puts the bytes that digits give into `text`, as far as it goes, and yields how many they are.
-fn text_of(digits: &[u8], text: &mut [u8]) -> usize
-    ensures { IsPrefixLen result text.new × (result * 2 ≤ length digits.now) }
-{
-    let most = scan::least(digits.len() / 2, text.len());
-    let mut i: usize = 0;
-    while i < most {
-        let b = pair(digits, i * 2);
-        if b > 255 {
-            return i;
+impl Digits for u32 {
+    ghost WIDTH = { 9 };
+
+    const WIDTH: usize = 9;
+
+    fn digits_at(text: &[u8], p: usize) -> Option<u32> {
+        if text[p + 8] != b' ' {
+            return None;
         }
-        text[i] = b as u8;
-        i += 1;
+        let a = u8::digits_at(text, p)?;
+        let b = u8::digits_at(text, p + 2)?;
+        let c = u8::digits_at(text, p + 4)?;
+        let d = u8::digits_at(text, p + 6)?;
+        Some(u32::from_be_bytes([a, b, c, d]))
     }
-    i
+
+    ghost wide = { Prim.search rules };
+}
+
+// Puts the numbers that a text has in digits into `numbers`, as far as it goes, and yields how many they are.
+fn numbers_of<T: Digits>(text: &[u8], numbers: &mut [T]) -> usize
+    ensures { IsPrefixLen result numbers.new × (result * T.WIDTH ≤ length text.now) }
+{
+    let most = numbers.len().min(text.len() / T::WIDTH);
+    for i in 0..most {
+        let Some(number) = T::digits_at(text, i * T::WIDTH) else {
+            return i;
+        };
+        numbers[i] = number;
+    }
+    most
 }
 
 // How many bytes the name of a line's call has: a letter, and behind L that of a leaf.
@@ -134,11 +132,11 @@ pub fn parse(line: &[u8], words: &mut [u32], text: &mut [u8]) -> Line
 {
     let name = name_size(line);
     let start = scan::span_back(line, scan::Class::Not(32), 0, line.len());
-    let from = scan::least(name + 1, start);
-    let w = words_of(&line[from..start], words);
-    let n = text_of(&line[start..], text);
+    let from = start.min(name + 1);
+    let w = numbers_of(&line[from..start], words);
+    let n = numbers_of(&line[start..], text);
     let whole = from + w * 9 == start && start + n * 2 == line.len();
-    let known = whole && byte_at(line, name) == 32;
+    let known = whole && byte_at(line, name) == b' ';
     Line {
         call: if known { byte_at(line, 0) } else { 0 },
         leaf: byte_at(line, 1),
