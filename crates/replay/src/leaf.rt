@@ -6,24 +6,24 @@ fn write(rt: &impl Print, r: u64) -> io::Result<()> {
     crate::write(rt, r, &[])
 }
 
-// Leaves of a text that write eight words.
-fn floats(rt: &impl Print, text: &[u8]) -> io::Result<()> {
+// A leaf of a text that writes eight words.
+fn list<F: FnOnce(&[u8], &mut [u32]) -> u64>(
+    rt: &impl Print,
+    leaf: F,
+    text: &[u8],
+) -> io::Result<()>
+    requires { F.IsAlwaysCallable leaf }
+{
     let mut list = [stored::LENT; 8];
-    let r = leaves::hannuvel_leaf_floats(text, &mut list);
-    crate::write(rt, r, &list)
-}
-
-fn ints(rt: &impl Print, text: &[u8]) -> io::Result<()> {
-    let mut list = [stored::LENT; 8];
-    let r = leaves::hannuvel_leaf_ints(text, &mut list);
+    let r = leaf(text, &mut list);
     crate::write(rt, r, &list)
 }
 
 // Leaves of a text.
 fn of_text(rt: &impl Print, letter: u8, text: &[u8]) -> io::Result<()> {
     match letter {
-        b'F' => floats(rt, text),
-        b'G' => ints(rt, text),
+        b'F' => list(rt, leaves::hannuvel_leaf_floats, text),
+        b'G' => list(rt, leaves::hannuvel_leaf_ints, text),
         b'N' => write(rt, leaves::hannuvel_leaf_numeral(text)),
         b'I' => write(rt, leaves::hannuvel_leaf_i32(text)),
         b'H' => write(rt, leaves::hannuvel_leaf_hexadecimal(text)),
@@ -71,11 +71,11 @@ fn of_three(rt: &impl Print, letter: u8, a: u32, b: u32, c: u32) -> io::Result<(
 
 // The answer of the leaf of that letter.
 pub(crate) fn answer(rt: &impl Print, letter: u8, words: &[u32], text: &[u8]) -> io::Result<()> {
-    match words.len() {
-        0 => of_text(rt, letter, text),
-        1 => of_one(rt, letter, words[0]),
-        2 => of_two(rt, letter, words[0], words[1]),
-        3 => of_three(rt, letter, words[0], words[1], words[2]),
+    match words {
+        [] => of_text(rt, letter, text),
+        [a] => of_one(rt, letter, *a),
+        [a, b] => of_two(rt, letter, *a, *b),
+        [a, b, c] => of_three(rt, letter, *a, *b, *c),
         _ => crate::write_unknown(rt),
     }
 }

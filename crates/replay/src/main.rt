@@ -5,23 +5,12 @@ use std::io::{self, Read};
 
 mod leaf;
 
-fn write_word(rt: &impl Print, w: u32) -> io::Result<()> {
-    print!(rt; " {w:08x}")
-}
-
-fn write_words(rt: &impl Print, words: &[u32]) -> io::Result<()> {
-    let mut i: usize = 0;
-    while i < words.len() {
-        write_word(rt, words[i])?;
-        i += 1;
-    }
-    Ok(())
-}
-
 // Writes the answer to a line: the result, then the words that were lent, as the call left them.
 fn write(rt: &impl Print, res: u64, lent: &[u32]) -> io::Result<()> {
     print!(rt; "{res:016x}")?;
-    write_words(rt, lent)?;
+    for w in lent {
+        print!(rt; " {w:08x}")?;
+    }
     println!(rt; "")
 }
 
@@ -30,34 +19,34 @@ fn write_unknown(rt: &impl Print) -> io::Result<()> {
     println!(rt; "?")
 }
 
-// A block, on the number of table words and a text.
-fn overrides(rt: &impl Print, words: &[u32], text: &[u8], lent: &mut [u32]) -> io::Result<()> {
-    if words.len() != 1 {
+// A block by either reading call, on the number of table words and a text.
+fn block<F: FnOnce(&[u8], &mut [u32]) -> u64>(
+    rt: &impl Print,
+    read: F,
+    words: &[u32],
+    text: &[u8],
+    lent: &mut [u32],
+) -> io::Result<()>
+    requires { F.IsAlwaysCallable read }
+{
+    let [n] = words else {
         return write_unknown(rt);
-    }
-    let n = stored::part(words[0], lent.len());
-    let r = hannuvel::hannuvel_parse_overrides(text, &mut lent[0..n]);
-    write(rt, r, &lent[0..n])
-}
-
-// A block in braces, on the number of table words and a text.
-fn raw_block(rt: &impl Print, words: &[u32], text: &[u8], lent: &mut [u32]) -> io::Result<()> {
-    if words.len() != 1 {
-        return write_unknown(rt);
-    }
-    let n = stored::part(words[0], lent.len());
-    let r = hannuvel::hannuvel_parse_raw_block(text, &mut lent[0..n]);
-    write(rt, r, &lent[0..n])
+    };
+    let n = stored::part(*n, lent.len());
+    let table = &mut lent[..n];
+    let r = read(text, table);
+    write(rt, r, table)
 }
 
 // A drawing, on its scale's exponent, the number of path words and a text.
 fn drawing(rt: &impl Print, words: &[u32], text: &[u8], lent: &mut [u32]) -> io::Result<()> {
-    if words.len() != 2 {
+    let [exponent, n] = words else {
         return write_unknown(rt);
-    }
-    let n = stored::part(words[1], lent.len());
-    let r = hannuvel::hannuvel_parse_drawing(text, words[0], &mut lent[0..n]);
-    write(rt, r, &lent[0..n])
+    };
+    let n = stored::part(*n, lent.len());
+    let path = &mut lent[..n];
+    let r = hannuvel::hannuvel_parse_drawing(text, *exponent, path);
+    write(rt, r, path)
 }
 
 // A clip argument.
@@ -65,64 +54,62 @@ fn clip(rt: &impl Print, text: &[u8]) -> io::Result<()> {
     write(rt, hannuvel::hannuvel_split_clip_arg(text), &[])
 }
 
-fn write_state(rt: &impl Print, res: u64, state: &[u32; 92]) -> io::Result<()> {
-    write(rt, res, state)
-}
-
 // The state of a table's tags, on an instant, a duration and the table's words.
 fn evaluate(rt: &impl Print, words: &[u32]) -> io::Result<()> {
-    if words.len() < 2 {
+    let [t, duration, table @ ..] = words else {
         return write_unknown(rt);
-    }
-    let t = float::of_word(words[0]);
-    let duration = float::of_word(words[1]);
+    };
     let mut state = [stored::LENT; 92];
-    let r = hannuvel::hannuvel_evaluate_at(&words[2..], t, duration, &mut state);
-    write_state(rt, r, &state)
+    let r = hannuvel::hannuvel_evaluate_at(
+        table,
+        t.cast_signed(),
+        duration.cast_signed(),
+        &mut state,
+    );
+    write(rt, r, &state)
 }
 
 // The next mark of a table's tags, on an instant, a duration and the table's words.
 fn next_mark(rt: &impl Print, words: &[u32]) -> io::Result<()> {
-    if words.len() < 2 {
+    let [t, duration, table @ ..] = words else {
         return write_unknown(rt);
-    }
-    let t = float::of_word(words[0]);
-    let duration = float::of_word(words[1]);
-    write(
-        rt,
-        hannuvel::hannuvel_next_mark(&words[2..], t, duration),
-        &[],
-    )
+    };
+    let r = hannuvel::hannuvel_next_mark(table, t.cast_signed(), duration.cast_signed());
+    write(rt, r, &[])
 }
 
 // The karaoke spans of a table's tags, on the number of span words and the table's words.
 fn karaoke_spans(rt: &impl Print, words: &[u32], lent: &mut [u32]) -> io::Result<()> {
-    if words.len() < 1 {
+    let [n, table @ ..] = words else {
         return write_unknown(rt);
-    }
-    let n = stored::part(words[0], lent.len());
-    let r = hannuvel::hannuvel_karaoke_spans(&words[1..], &mut lent[0..n]);
-    write(rt, r, &lent[0..n])
+    };
+    let n = stored::part(*n, lent.len());
+    let spans = &mut lent[..n];
+    let r = hannuvel::hannuvel_karaoke_spans(table, spans);
+    write(rt, r, spans)
 }
 
 // Progress, on a span's start and end and an instant.
 fn progress(rt: &impl Print, words: &[u32]) -> io::Result<()> {
-    if words.len() != 3 {
+    let [start, end, t] = words else {
         return write_unknown(rt);
-    }
-    let t = float::of_word(words[2]);
-    write(rt, hannuvel::hannuvel_progress(words[0], words[1], t), &[])
+    };
+    write(rt, hannuvel::hannuvel_progress(*start, *end, t.cast_signed()), &[])
 }
 
 // The style in force, on the number of bytes of the block, an instant, a duration and a table's words; the text is the block and then the own name.
 fn style_in_force(rt: &impl Print, words: &[u32], text: &[u8]) -> io::Result<()> {
-    if words.len() < 3 {
+    let [n, t, duration, table @ ..] = words else {
         return write_unknown(rt);
-    }
-    let n = stored::part(words[0], text.len());
-    let t = float::of_word(words[1]);
-    let duration = float::of_word(words[2]);
-    let r = hannuvel::hannuvel_style_in_force(&words[3..], t, duration, &text[0..n], &text[n..]);
+    };
+    let (block, own) = text.split_at(stored::part(*n, text.len()));
+    let r = hannuvel::hannuvel_style_in_force(
+        table,
+        t.cast_signed(),
+        duration.cast_signed(),
+        block,
+        own,
+    );
     write(rt, r, &[])
 }
 
@@ -137,8 +124,8 @@ fn answer(
 ) -> io::Result<()> {
     match call {
         b'L' => leaf::answer(rt, leaf, words, text),
-        b'O' => overrides(rt, words, text, lent),
-        b'R' => raw_block(rt, words, text, lent),
+        b'O' => block(rt, hannuvel::hannuvel_parse_overrides, words, text, lent),
+        b'R' => block(rt, hannuvel::hannuvel_parse_raw_block, words, text, lent),
         b'D' => drawing(rt, words, text, lent),
         b'C' => clip(rt, text),
         b'E' => evaluate(rt, words),
@@ -169,14 +156,12 @@ fn answer_line(rt: &impl Print, line: &[u8]) -> io::Result<()> {
 
 // Answers the lines of standard input, up to 2 ^ 64.
 fn replay<R: Read>(rt: &impl Print, reader: &mut R, line: &mut [u8]) -> io::Result<()> {
-    let mut turns = u64::MAX;
-    while turns > 0 {
+    for _ in 0..u64::MAX {
         let n = stored::read_line(reader, line);
         if n == 0 {
-            return Ok(());
+            break;
         }
         answer_line(rt, &line[..n])?;
-        turns -= 1;
     }
     Ok(())
 }
