@@ -1,10 +1,9 @@
 -- One turn of each loop, and its end.
 use mathlib.Core.Path.{◌≡◌, refl, sym, ap, ◌∙◌, subst}
-use Prim.Native.Nat.{ℕ, zero, suc, ◌+◌, ◌*◌, ◌/◌, ◌%◌, ◌^◌, ◌≤◌, ◌<◌}
-use native.Mathlib.Nat.{not-suc-le-zero, mul_assoc, pow-succ', one-le-pow, mul-div_cancel, mul-mod_left, div-add-mod', add-zero, mod-eq_of_lt}
-use lib.Pow.{pow-lt}
+use Prim.Native.Nat.{ℕ, zero, suc, ◌+◌, ◌-◌, ◌*◌, ◌/◌, ◌%◌, ◌^◌, ◌≤◌, ◌<◌}
+use native.Mathlib.Nat.{not-suc-le-zero, mul_assoc, pow-succ', one-le-pow, mul-div_cancel, mul-mod_left, div-add-mod', add-zero, one-mul, mod-eq_of_lt, lt_of_le_of_lt, lt_of_lt_of_le, le_of_eq}
+use lib.Pow.{pow-lt, pow_pos}
 use native.Mathlib.Omega.{arith}
-use native.Mathlib.Numerals.{add-one}
 use mathlib.Core.Bool.{true, false, ◌&&◌, true≢false}
 use lib.Dec.{T, lit≤, eqb, eqb→eq}
 use lib.Ieee.{Float, nan, inf, fin, binary32, mul, eq, of_bits, fits, up, down}
@@ -12,6 +11,7 @@ use lib.Ieee.Fits.{and_l, and_r, down_pos}
 use lib.Ieee.Back.{whole_unique}
 use Rattle.float.specs.Float.{one}
 use Rattle.root.specs.Root.{sqrt}
+use Rattle.root.specs.Inner.{part}
 use Rattle.power.specs.Power.{times, if_one, roots, power256}
 
 pub times_step : (i j : ℕ) (x p : Float) → i + 1 ≡ j → times i x (mul binary32 p x) ≡ times j x p
@@ -20,12 +20,18 @@ times_step i zero x p h = absurd (omega arith)
 times_step i (suc j) x p h = let same : i ≡ j = omega arith in ap (λ (n : ℕ). times n x (mul binary32 p x)) same
 
 -- y is the root of r, and q is p with it
-pub roots_step : (d j v : ℕ) (r p y q : Float) → d + 1 ≡ j → y ≡ sqrt binary32 r → q ≡ if_one (v / 2 ^ d % 2) y p → roots d v y q ≡ roots j v r p
+pub roots_step : (d v : ℕ) (r p y q : Float) → 1 ≤ d → y ≡ sqrt binary32 r → q ≡ if_one (v / 2 ^ (d - 1) % 2) y p → roots (d - 1) v y q ≡ roots d v r p
 unfolding roots
-roots_step d zero v r p y q h e f = absurd (omega arith)
-roots_step d (suc j) v r p y q h e f =
-    let same : d ≡ j = omega arith in
-    ap (λ (z : Float). roots d v y z) f ∙ ap (λ (n : ℕ). roots n v y (if_one (v / 2 ^ n % 2) y p)) same ∙ ap (λ (z : Float). roots j v z (if_one (v / 2 ^ j % 2) z p)) e
+roots_step zero v r p y q h e f = absurd (not-suc-le-zero h)
+roots_step (suc d) v r p y q h e f =
+    ap (λ (z : Float). roots (suc d - 1) v y z) f ∙ ap (λ (n : ℕ). roots n v y (if_one (v / 2 ^ n % 2) y p)) (less d) ∙ ap (λ (z : Float). roots d v z (if_one (v / 2 ^ d % 2) z p)) e
+  where
+    less : (i : ℕ) → suc i - 1 ≡ i
+    less i = omega arith
+
+-- the same by digits: s are those of m's root
+pub near_step : (d v m s : ℕ) (p y q : Float) → 1 ≤ d → part s ≡ sqrt binary32 (part m) → y ≡ part s → q ≡ if_one (v / 2 ^ (d - 1) % 2) y p → roots (d - 1) v (part s) q ≡ roots d v (part m) p
+near_step d v m s p y q h e is f = roots_step d v (part m) p (part s) q h e (f ∙ ap (λ (z : Float). if_one (v / 2 ^ (d - 1) % 2) z p) is)
 
 pub times-end : (i : ℕ) (x p : Float) → i ≤ 0 → times i x p ≡ p
 unfolding times
@@ -40,6 +46,18 @@ pub if_zero : (d : ℕ) (y p : Float) → d ≡ 0 → if_one d y p ≡ p
 unfolding if_one
 if_zero d y p e = ap (λ (n : ℕ). if_one n y p) e
 
+-- `1 << d`
+pub one_shifted : (d : ℕ) → d ≤ 8 → 1 * 2 ^ d % 2 ^ 32 ≡ 2 ^ d
+one_shifted d h = mod-eq_of_lt (lt_of_le_of_lt (le_of_eq (one-mul (2 ^ d))) (pow-lt {j = 32} (omega arith))) ∙ one-mul (2 ^ d)
+
+pub shifted_pos : (d : ℕ) → d ≤ 8 → 0 < 1 * 2 ^ d % 2 ^ 32
+shifted_pos d h = lt_of_lt_of_le (pow_pos d) (le_of_eq (sym (one_shifted d h)))
+
+-- where a digit is left there are some
+pub some-digits : (d v : ℕ) → 0 < v % (1 * 2 ^ d % 2 ^ 32) → 1 ≤ d
+some-digits zero v h = omega arith
+some-digits (suc d) v h = omega arith
+
 -- digits that are all 0 leave p as it is
 no-roots : (d w v : ℕ) (r p : Float) → v ≡ w * 2 ^ d → roots d v r p ≡ p
 unfolding roots
@@ -50,19 +68,14 @@ no-roots (suc d) w v r p e =
     let digit : v / 2 ^ d % 2 ≡ 0 = ap (λ (n : ℕ). n / 2 ^ d % 2) f ∙ ap (λ (n : ℕ). n % 2) (mul-div_cancel (w * 2) (one-le-pow d 2 (lit≤ tt))) ∙ mul-mod_left w 2 in
     ap (λ (q : Float). roots d v y q) (if_zero (v / 2 ^ d % 2) y p digit) ∙ no-roots d (w * 2) v y p f
 
-pub roots-end : (d j v : ℕ) (r p : Float) → d + 1 ≡ j → j ≤ 8 → v % (2 * 2 ^ d % 2 ^ 32) ≡ 0 → roots j v r p ≡ p
-roots-end d j v r p next small h = no-roots j (v / 2 ^ j) v r p (sym (div-add-mod' v (2 ^ j)) ∙ ap (λ (n : ℕ). v / 2 ^ j * 2 ^ j + n) none ∙ add-zero (v / 2 ^ j * 2 ^ j))
+pub roots-end : (d v : ℕ) (r p : Float) → d ≤ 8 → v % (1 * 2 ^ d % 2 ^ 32) ≤ 0 → roots d v r p ≡ p
+roots-end d v r p small h = no-roots d (v / 2 ^ d) v r p (sym (div-add-mod' v (2 ^ d)) ∙ ap (λ (n : ℕ). v / 2 ^ d * 2 ^ d + n) none ∙ add-zero (v / 2 ^ d * 2 ^ d))
   where
-    shifted : 2 * 2 ^ d ≡ 2 ^ j
-    shifted = sym (pow-succ' 2 d) ∙ ap (λ (n : ℕ). 2 ^ n) (sym (add-one d) ∙ next)
+    zero_of : (n : ℕ) → n ≤ 0 → n ≡ 0
+    zero_of n h = omega arith
 
-    none : v % 2 ^ j ≡ 0
-    none = ap (λ (n : ℕ). v % n) (sym (ap (λ (n : ℕ). n % 2 ^ 32) shifted ∙ mod-eq_of_lt (pow-lt {j = 32} (omega arith)))) ∙ h
-
-pub roots-none : (d v : ℕ) (r p : Float) → d ≤ 0 → roots d v r p ≡ p
-unfolding roots
-roots-none zero v r p h = refl
-roots-none (suc d) v r p h = absurd (not-suc-le-zero h)
+    none : v % 2 ^ d ≡ 0
+    none = ap (λ (n : ℕ). v % n) (sym (one_shifted d small)) ∙ zero_of (v % (1 * 2 ^ d % 2 ^ 32)) h
 
 pub power-is : (x : Float) (v : ℕ) (p : Float) → p ≡ times (v / 256) x one → roots 8 v x p ≡ power256 x v
 unfolding power256

@@ -1,10 +1,11 @@
 // x to the power a, for 0 <= x <= 1: the whole part of a by repeated multiplication, and eight binary digits of its fraction by repeated square roots.
 #![tactic(auto)]
 
-ghost use Rattle.std.specs.Prelude.{◌≡◌, ◌/◌, T};
+ghost use Rattle.std.specs.Prelude.{◌≡◌, ◌/◌, ◌%◌, ◌^◌, ◌<◌, ◌≤◌, T};
 ghost use Rattle.std.specs.Float.Ieee as Ieee;
 ghost use Rattle.float.specs.Float.{zero, one};
-ghost use Rattle.power.specs.Power.{times, roots, steps, power256, power_up, power};
+ghost use Rattle.root.specs.Inner.{Digits, part};
+ghost use Rattle.power.specs.Power.{times, if_one, roots, steps, power256, power_up, power};
 
 // 256 times a, cut down to a whole number, at most 64 * 256.
 fn in_256ths(a: f32) -> u32
@@ -29,20 +30,51 @@ fn whole(x: f32, n: u32) -> f32
     p
 }
 
+// p, multiplied by y if v has a 1 at the digit d.
+fn times_digit(p: f32, y: f32, v: u32, d: u32) -> f32
+    requires { d < 8 }
+    ensures { result ≡ if_one (v / 2 ^ d % 2) y p }
+{
+    if (v >> d) % 2 == 1 { p * y } else { p }
+}
+
+// p with v's d lowest binary digits, starting from the f32 whose digits are m, two roots a turn.
+fn near_one(m: u64, v: u32, d: u32, whole: f32) -> f32
+    requires { Digits m × (d ≤ 8) }
+    ensures { result ≡ roots d v (part m) whole }
+{
+    let mut p = whole;
+    let mut r = m;
+    let mut i = d;
+    while v % (1 << i) > 0 {
+        let g = root::first_root(r);
+        i -= 1;
+        r = g.digits;
+        p = times_digit(p, root::of_digits(r), v, i);
+        if v % (1 << i) > 0 {
+            i -= 1;
+            r = root::root_digits(r, g.next);
+            p = times_digit(p, root::of_digits(r), v, i);
+        }
+    }
+    p
+}
+
 // p with the eight binary digits of v's fraction. No root is taken once the digits left are all 0: none for a whole power, one for a half.
 fn fraction(x: f32, v: u32, whole: f32) -> f32
     ensures { result ≡ roots 8 v x whole }
 {
     let mut p = whole;
     let mut r = x;
-    for digit in (0..8u32).rev() {
-        if v % (2 << digit) == 0 {
-            break;
+    let mut d: u32 = 8;
+    while v % (1 << d) > 0 {
+        let m = root::digits_of(r);
+        if m > 0 {
+            return near_one(m, v, d, p);
         }
+        d -= 1;
         r = root::sqrt_f32(r);
-        if (v >> digit) % 2 == 1 {
-            p *= r;
-        }
+        p = times_digit(p, r, v, d);
     }
     p
 }

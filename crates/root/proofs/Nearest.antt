@@ -1,19 +1,19 @@
 -- `sqrt binary32 x` is the correctly rounded root of x: every other f32 is farther from √x, and there is never a tie. The theorem is `nearest-root`, at the end; its words stand in specs/Root.antt, `NearestRoot`.
 -- Values are counted in units of the smallest f32: n is x in squares of it, g the root, and b any other value.
-use Rattle.std.proofs.Common.{◌≡◌, ℕ, zero, suc, ◌+◌, ◌-◌, ◌*◌, ◌/◌, ◌%◌, ◌^◌, ◌<◌, ◌≤◌, true, false, ◌&&◌, T, eqb, ltb, leb, ◌⊎◌, sym, ap, ◌∙◌, subst, inl, inr, ⊎_elim, le_trans, le_of_eq, lt_of_lt_of_le, lt_of_le_of_lt, le_of_lt, mul-le-mul_right, mul_assoc, div-lt_iff_lt-mul, mul-lt-mul_of_pos_right, mul-pos, lt_of_not-le, le-div_iff_mul-le, mul_right_comm, not-le_of_lt, div-mul-le_self, add-one, arith, lit<, ltb→lt, pow_pos, pow_mono, pow-add, shl_lt}
+use Rattle.std.proofs.Common.{◌≡◌, ℕ, zero, suc, ◌+◌, ◌-◌, ◌*◌, ◌/◌, ◌%◌, ◌^◌, ◌<◌, ◌≤◌, true, false, ◌&&◌, T, eqb, ltb, leb, ◌⊎◌, sym, ap, ◌∙◌, subst, inl, inr, ⊎_elim, le_trans, le_of_eq, lt_of_lt_of_le, lt_of_le_of_lt, le_of_lt, mul-le-mul_right, mul_assoc, div-lt_iff_lt-mul, eq-zero-or-pos, mul-lt-mul_of_pos_right, mul-pos, lt_of_not-le, le-div_iff_mul-le, mul_right_comm, not-le_of_lt, div-mul-le_self, add-one, arith, lit<, ltb→lt, pow_pos, pow_mono, pow-add, shl_lt}
 use Prim.Native.Nat.{compare, Ordering}
 use native.Mathlib.Nat.{eq_of_mul-eq-mul_right}
 use native.Mathlib.Decide.{dec_le}
 use lib.Pow.{pow-lt}
-use lib.Ieee.{Float, nan, inf, fin, binary32, up, down, size, nearest, odd, units, fits}
+use lib.Ieee.{Float, nan, inf, fin, binary32, up, down, size, nearest, odd, units, fits, to_bits}
 use lib.Ieee.Digits.{size-le, size_reaches}
 use lib.Ieee.Fits.{and_r, down_pos, kept-lt, nearest-le, odd-fits, cond-fits, inf-fits}
 use lib.Ieee.Exact.{HasValue, units_val}
 use lib.Ieee.Positive.{positive}
 use Rattle.decimal.proofs.Law.{cmp, Cmp, pow-back}
-use Rattle.float.proofs.Units.{Grid, on_grid, in_units}
+use Rattle.float.proofs.Units.{Grid, on_grid}
 use Rattle.root.specs.Root.{square, isqrt, closest_root, root_units, square_units, sqrt, Farther, NearestRoot}
-use Rattle.root.proofs.Law.{square_mono, square-back, square-mul, isqrt-is, sqrt-is, squares}
+use Rattle.root.proofs.Law.{square_mono, square-back, square-mul, isqrt-is, sqrt-is, start-low, start-high}
 
 multiple : (m j k : ℕ) → k ≤ j → m * 2 ^ j ≡ m * 2 ^ (j - k) * 2 ^ k
 multiple m j k h = ap (λ (x : ℕ). m * x) (ap (λ (x : ℕ). 2 ^ x) split ∙ pow-add 2 (j - k) k) ∙ sym (mul_assoc m (2 ^ (j - k)) (2 ^ k))
@@ -179,8 +179,11 @@ in-range (fin false (suc m) e) f p =
 
 square_on_grid : (x : Float) → T (fits binary32 x) → T (positive x) → Grid (square_units binary32 x)
 square_on_grid x f p =
-    let (b, v, (m, j, small, is), some) = in_units x f p in
-    (m, j + 149, small, squares 149 x b v ∙ ap (λ (n : ℕ). n * 2 ^ 149) is ∙ mul_assoc m (2 ^ j) (2 ^ 149) ∙ ap (λ (n : ℕ). m * n) (sym (pow-add 2 j 149)))
+    let b = to_bits binary32 x in
+    ⊎_elim
+    (λ (z : b / 2 ^ 23 ≡ 0). (b % 2 ^ 23, 149, omega arith, sym (start-low x f p z).0))
+    (λ (h : 0 < b / 2 ^ 23). (b % 2 ^ 23 + 2 ^ 23, b / 2 ^ 23 + 148, omega arith, sym (start-high x f p h).0))
+    (eq-zero-or-pos (b / 2 ^ 23))
 
 -- THE THEOREM, for every finite x above zero
 pub nearest-root : (x : Float) → T (fits binary32 x) → T (positive x) → NearestRoot x (sqrt binary32 x)
