@@ -276,3 +276,14 @@ no-decimal b z =
     (λ (l : b < 71). ⊎_elim (λ (m : 65 ≤ b). rw (← digit_upper b m (omega arith)) (omega arith))
     (λ (m : b < 65). rw (← digit-between b z m) (omega arith))
     (le_or_lt 65 b)) (le_or_lt 71 b)) (le_or_lt 97 b)) (le_or_lt 103 b)
+
+-- one step of a scan, by the byte that is looked at
+pub ruleset spans = (span-end, span-stop, span_go)
+
+pub ruleset backs = (back_end, back-stop, back_go)
+
+pub ruleset skips = (skip_stop, skip_go, blank_at-fits)
+
+pub ruleset trims = (trim_end-stop, trim_end_go)
+
+pub ruleset closings = (closing_end, passed-closing)

@@ -53,6 +53,7 @@ pub fn below(text: &[u8], x: u8, from: usize, to: usize) -> usize
 }
 
 // The first place from `from` on whose byte is not of the class, or `to`.
+#[tactic(auto, using(crate::proofs::Laws::spans))]
 pub fn span<C: Class>(text: &[u8], class: C, from: usize, to: usize) -> usize
     requires { (from ≤ to) × (to ≤ length text.now) }
     ensures { Place from to (span_to (C.holds class) text.now from to) result }
@@ -66,6 +67,7 @@ pub fn span<C: Class>(text: &[u8], class: C, from: usize, to: usize) -> usize
 }
 
 // The least place from which on, up to `to`, all bytes are of the class.
+#[tactic(auto, using(crate::proofs::Laws::backs))]
 pub fn span_back<C: Class>(text: &[u8], class: C, from: usize, to: usize) -> usize
     requires { (from ≤ to) × (to ≤ length text.now) }
     ensures { Place from to (back_to (C.holds class) text.now from to) result }
@@ -107,6 +109,7 @@ pub fn blank_before(text: &[u8], from: usize, e: usize) -> usize
 }
 
 // Where the text between two places begins once its leading blanks are dropped.
+#[tactic(auto, using(crate::proofs::Laws::skips))]
 pub fn trim_start(text: &[u8], from: usize, to: usize) -> usize
     requires { (from ≤ to) × (to ≤ length text.now) }
     ensures { Place from to (trim_start text.now from to) result }
@@ -122,6 +125,7 @@ pub fn trim_start(text: &[u8], from: usize, to: usize) -> usize
 }
 
 // Where it ends once its trailing blanks are dropped.
+#[tactic(auto, using(crate::proofs::Laws::trims))]
 pub fn trim_end(text: &[u8], from: usize, to: usize) -> usize
     requires { (from ≤ to) × (to ≤ length text.now) }
     ensures { Place from to (trim_end text.now from to) result }
@@ -188,6 +192,7 @@ pub fn clear(text: &[u8], x: u8, from: usize, to: usize) -> usize
 }
 
 // The place of the parenthesis that closes the one open before `from`, or `to`.
+#[tactic(auto, using(crate::proofs::Laws::closings))]
 pub fn closing(text: &[u8], from: usize, to: usize) -> usize
     requires { (from ≤ to) × (to ≤ length text.now) }
     ensures { Place from to (closing_to text.now from to 1) result }

@@ -1,7 +1,6 @@
-use Rattle.scan.proofs.Laws.{closing_end, closing-stop, closing_go, passed-closing}
+use Rattle.scan.proofs.Laws.{closing-stop, closing_go, passed-closing}
 use native.Mathlib.Omega.{arith}
 use mathlib.Core.Path.{sym, ◌∙◌}
-use borrow.Author.Rules.{rules}
 use Rattle.scan.proofs.closing.Goals as goal
 
 pub returns-then-k-eq0 : goal.returns-then-k-eq0
@@ -14,9 +13,6 @@ returns-then-k-eq0 c =
       high = w.high;
     }
 
-pub loop-i-smaller-then-i-to : goal.loop-i-smaller-then-i-to
-loop-i-smaller-then-i-to c = omega (arith, c.clear-i.ensures.low, c.if-i-to.true)
-
 pub loop-i-preserved-then-i-to : goal.loop-i-preserved-then-i-to
 loop-i-preserved-then-i-to c =
     let l = c.loop-i in
@@ -28,15 +24,3 @@ loop-i-preserved-then-i-to c =
       omega (arith, c.opened-k.ensures.1, w.low, l.invariant.3, l.invariant.0),
       l.invariant.4 ∙ passed-closing _ _ _ _ _ l.invariant.2 w ∙ closing_go _ _ _ _ k c.if-i-to.true (sym c.opened-k.ensures.0) c.if-k-eq0.false,
     )
-
-pub loop-i-smaller : goal.loop-i-smaller
-loop-i-smaller c = omega (arith, c.clear-i.ensures.low, c.if-i-to.false)
-
-pub loop-i-preserved : goal.loop-i-preserved
-loop-i-preserved c =
-    let l = c.loop-i in
-    let w = c.clear-i.ensures in
-    (omega (arith, w.low, l.invariant.0), w.high, l.invariant.2, omega (arith, w.low, l.invariant.3), l.invariant.4 ∙ passed-closing _ _ _ _ _ l.invariant.2 w)
-
-pub returns : goal.returns
-returns c = record { is = sym (c.loop-i.invariant.4 ∙ closing_end _ _ _ _ (search rules)); low = search rules; high = search rules }
