@@ -6,9 +6,8 @@ use Rattle.refusal.specs.declared.Refusal.{Refusal}
 use Rattle.tag.specs.Table.{encode}
 use Rattle.tag.proofs.Table.{laid_none}
 use Rattle.read.specs.declared.Out.{Out}
-use Rattle.refusal.specs.declared.Answer.{Answer}
-use Rattle.refusal.specs.declared.Answer.TheVariants.{Written, Refused}
-use Rattle.refusal.specs.declared.Checked.TheVariants.{Good, Bad}
+use Rattle.refusal.specs.Answer.{Answer}
+use Rattle.std.specs.Prelude.{Ok, Err}
 use Rattle.read.specs.declared.Span.{Span}
 use Rattle.read.specs.Reading.{kept_tags, read_ground, block_of, answer, after, Answered}
 use Rattle.read.specs.Inner.{found_of, Seen, Told}
@@ -16,16 +15,16 @@ use Rattle.tag.specs.Table.{places_of}
 use Rattle.refusal.specs.Refusal.{text_ground}
 
 module _ (s : List ℕ) (x : Span) (t : List ℕ) where
-  pub text-refused : (r : Refusal) → text_ground s ≡ Bad r → Answered s x t (Refused r) t
+  pub text-refused : (r : Refusal) → text_ground s ≡ Err r → Answered s x t (Err r) t
   unfolding answer after
   text-refused r e = record { reading = rw e; table = rw e }
 
   -- one run, where nothing can stand against the text
-  pub straight : (seen : Out) (m : ℕ) (u : List ℕ) → answer s x (places_of t) ≡ Written (kept_tags (block_of s x)) → Told t (block_of s x) m seen u → Answered s x t (Written seen.n) u
+  pub straight : (seen : Out) (m : ℕ) (u : List ℕ) → answer s x (places_of t) ≡ Ok (kept_tags (block_of s x)) → Told t (block_of s x) m seen u → Answered s x t (Ok seen.n) u
   unfolding after
-  straight seen m u e a = record { reading = ap (λ (y : Seen). Written y.n) a.out ∙ sym e; table = rw (e, a.table) }
+  straight seen m u e a = record { reading = ap (λ (y : Seen). Ok y.n) a.out ∙ sym e; table = rw (e, a.table) }
 
-  module _ (l : List ℕ) (seen : Out) (m : ℕ) (good : text_ground s ≡ Good) (a : Told [] (block_of s x) m seen l) where
+  module _ (l : List ℕ) (seen : Out) (m : ℕ) (good : text_ground s ≡ Ok tt) (a : Told [] (block_of s x) m seen l) where
     -- the dry run leaves the table as it was
     dry : l ++ t ≡ t
     dry = rw (a.table, laid_none (encode (block_of s x).tags))
@@ -34,14 +33,14 @@ module _ (s : List ℕ) (x : Span) (t : List ℕ) where
     unfolding answer
     is-answer r e = sym (rw dry at e) ∙ ap (λ (y : Seen). read_ground y.long y.far y.n (places_of t)) a.out ∙ rw good
 
-    pub refused : (r : Refusal) → read_ground (found_of seen.long) (found_of seen.far) seen.n (places_of (l ++ t)) ≡ Refused r → Answered s x t (Refused r) (l ++ t)
+    pub refused : (r : Refusal) → read_ground (found_of seen.long) (found_of seen.far) seen.n (places_of (l ++ t)) ≡ Err r → Answered s x t (Err r) (l ++ t)
     unfolding after
     refused r e =
-        let k = is-answer (Refused r) e in
+        let k = is-answer (Err r) e in
         record { reading = k; table = rw (← k) dry }
 
-    pub done : (n : ℕ) (m' : ℕ) (o : Out) (u : List ℕ) → read_ground (found_of seen.long) (found_of seen.far) seen.n (places_of (l ++ t)) ≡ Written n → Told (l ++ t) (block_of s x) m' o u → Answered s x t (Written n) u
+    pub done : (n : ℕ) (m' : ℕ) (o : Out) (u : List ℕ) → read_ground (found_of seen.long) (found_of seen.far) seen.n (places_of (l ++ t)) ≡ Ok n → Told (l ++ t) (block_of s x) m' o u → Answered s x t (Ok n) u
     unfolding after
     done n m' o u e b =
-        let k = is-answer (Written n) e in
+        let k = is-answer (Ok n) e in
         record { reading = k; table = rw (← k) (rw dry at b.table) }

@@ -15,8 +15,7 @@ use Rattle.scan.proofs.Laws.{picked}
 use Rattle.refusal.specs.Refusal.{most_bytes}
 use Rattle.float.specs.Float.{round_away, round_byte}
 use Rattle.numeral.specs.Numeral.{F32, I32, whole, i32_at, hex_at}
-use Rattle.numeral.specs.declared.Numeral.{Numeral}
-use Rattle.numeral.specs.declared.Numeral.TheVariants.{No, TooLong, Word}
+use Rattle.std.specs.Prelude.{Option, Some, None}
 use Rattle.numeral.proofs.Reach.{Bounded}
 use Rattle.survey.specs.Survey.{Unplain}
 use Rattle.survey.proofs.Long.{Ends}
@@ -28,7 +27,7 @@ use Rattle.tag.specs.declared.KaraokeKind.TheVariants.{Fill, Sweep, Outline}
 use Rattle.tag.specs.Decode.{decoders, decode_one}
 use Rattle.tag.specs.Range.{range, rows, in_range}
 use Rattle.plain.specs.Names.{Shape, float, pair, ranged, flag, alpha, colour, clip, beat, fad, fade, move, edge, baseline, weight, reset, unknown, names, lookup, key_at}
-use Rattle.plain.specs.Plain.{One, no, long, kept, far, part, map_f32, map_alpha, map_colour, all_floats, floats, nth, nth_int, unless_long, pair_of, move_of, not_below_zero, byte_of, fad_of, is_far, fade_of, ranged_of, weight_of, flag_of, clip_of, reset_of, beat_of, shaped, is_fn, is_named_reset, plain_at_lem}
+use Rattle.plain.specs.Plain.{One, no, long, kept, far, part, map_f32, map_alpha, map_colour, all_floats, floats, nth, nth_int, unless_long, pair_of, move_of, not_below_zero, byte_of, fad_of, is_far, fade_of, ranged_of, weight_of, flag_of, clip_of, reset_of, beat_of, shaped, is_fn, is_named_reset, plain_at}
 use Rattle.plain.specs.Inner.{kind_of}
 use Rattle.plain.proofs.Numbers.{Small}
 use Rattle.plain.proofs.Every.{find}
@@ -116,10 +115,9 @@ module _ (s : List ℕ) (top p q : ℕ) (order : p ≤ q) (short : q ≤ most_by
       let t = trimmed s u.from u.to in
       go (hex_at s t.from t.to)
     where
-      go : (y : Numeral) → Good (map_alpha f (cap y))
-      go No = nothing
-      go (TooLong k) = nothing
-      go (Word n) = tag (h (min n 255) (byte_fits (min n 255) (omega arith)))
+      go : (y : Option ℕ) → Good (map_alpha f (cap y))
+      go None = nothing
+      go (Some n) = tag (h (min n 255) (byte_fits (min n 255) (omega arith)))
 
   fine-colour : (f : Tag.Rgb → AnimatedTag) → Ranged (colour f) → Good (map_colour f (colour_at s p q))
   unfolding colour_at
@@ -131,10 +129,9 @@ module _ (s : List ℕ) (top p q : ℕ) (order : p ≤ q) (short : q ≤ most_by
       least : (n : ℕ) → Fits (range 0 255) (n % 256)
       least n = byte_fits (n % 256) (omega (arith, mod-lt n {m = 256} (lit< tt)))
 
-      go : (y : Numeral) → Good (map_colour f (rgb y))
-      go No = nothing
-      go (TooLong k) = nothing
-      go (Word n) = tag (h _ (least n) (least (n / 256)) (least (n / 65536)))
+      go : (y : Option ℕ) → Good (map_colour f (rgb y))
+      go None = nothing
+      go (Some n) = tag (h _ (least n) (least (n / 256)) (least (n / 65536)))
 
   -- ---- a comma list
 
@@ -241,8 +238,8 @@ module _ (s : List ℕ) (top p q : ℕ) (order : p ≤ q) (short : q ≤ most_by
   fine-shape reset h = fine-reset
   fine-shape unknown h = nothing
 
-  pub plain-fine : (i m : ℕ) → m ≤ most_bytes → Good (plain_at_lem s i m p q)
-  unfolding plain_at_lem is_fn is_named_reset
+  pub plain-fine : (i m : ℕ) → m ≤ most_bytes → Good (plain_at s i m p q)
+  unfolding plain_at is_fn is_named_reset
   plain-fine i m a = go (is_fn s i m) (is_named_reset s i m p q) refl refl
     where
       go : (t u : Bool) → is_fn s i m ≡ t → is_named_reset s i m p q ≡ u → Good (pick t (kept (Fn (part (i + 2) m) (part p (trim_end s p q)))) (pick u (kept (R (named (part (i + 1) m)))) (shaped (lookup (key_at s i m) names) s p q)))

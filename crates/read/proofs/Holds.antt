@@ -9,21 +9,16 @@ use lib.ListN.{length, drop}
 use lib.Seq.{take_at}
 use borrow.Author.Tests.{leb-true}
 use Rattle.scan.specs.Scan.{pick}
-use Rattle.lists.specs.declared.Found.{Found}
-use Rattle.lists.specs.declared.Found.TheVariants.{Nowhere, At}
-use Rattle.refusal.specs.Refusal.{most_places}
+use Rattle.refusal.specs.Refusal.{Checked, most_places}
 use Rattle.refusal.specs.declared.Refusal.{Refusal}
 use Rattle.refusal.specs.declared.Refusal.TheVariants.{NoRoom}
 use Rattle.tag.specs.Table.{width, encode, table_words}
 use Rattle.tag.proofs.Table.{laid_full, length-words}
 use Rattle.tag.proofs.Tags.{count-length}
 use Rattle.tag.proofs.Decoding.{sound_ranges, sound_nested, words-formed, words_back}
-use Rattle.refusal.specs.declared.Answer.{Answer}
-use Rattle.refusal.specs.declared.Answer.TheVariants.{Written, Refused}
-use Rattle.refusal.specs.declared.Checked.{Checked}
-use Rattle.refusal.specs.declared.Checked.TheVariants.{Good, Bad}
+use Rattle.std.specs.Prelude.{Ok, Err, Option, Some, None}
 use Rattle.read.specs.declared.Span.{Span}
-use Rattle.refusal.specs.Answer.{unless_bad}
+use Rattle.refusal.specs.Answer.{Answer, unless_bad}
 use Rattle.read.specs.Reading.{read_ground, block_of, kept_tags, answer, after}
 use Rattle.tag.specs.Table.{places_of}
 use Rattle.refusal.specs.Refusal.{text_ground}
@@ -31,22 +26,22 @@ use Rattle.read.specs.Holds.{written, Holds}
 use Rattle.read.proofs.Parts.{SpanIn}
 use Rattle.read.proofs.Ranges.{block_sound}
 
-refused_not_read : (n : ℕ) (r : Refusal) → Refused r ≡ Written n → ⊥
+refused_not_read : (n : ℕ) (r : Refusal) → Err r ≡ Ok n → ⊥
 refused_not_read n r e = let z : ◌≡◌ {A = ℕ} 0 1 = cc in omega arith
 
 -- the answer, from the grounds and the count
-abbrev out : Checked → Found → Found → ℕ → ℕ → Answer
+abbrev out : Checked → Option ℕ → Option ℕ → ℕ → ℕ → Answer
 out c l f n p = unless_bad c (read_ground l f n p)
 
 -- what stands behind a reading
-read_out : (c : Checked) (l f : Found) (n m p : ℕ) → out c l f n p ≡ Written m → (m ≡ n) × (n ≤ min p most_places)
+read_out : (c : Checked) (l f : Option ℕ) (n m p : ℕ) → out c l f n p ≡ Ok m → (m ≡ n) × (n ≤ min p most_places)
 unfolding read_ground
-read_out (Bad b) l f n m p e = absurd (refused_not_read m b e)
-read_out Good (At a) f n m p e = absurd (let z : ◌≡◌ {A = ℕ} 0 1 = cc in omega arith)
-read_out Good Nowhere (At a) n m p e = absurd (let z : ◌≡◌ {A = ℕ} 0 1 = cc in omega arith)
-read_out Good Nowhere Nowhere n m p e = go (leb n (min p most_places)) refl e
+read_out (Err b) l f n m p e = absurd (refused_not_read m b e)
+read_out (Ok _) (Some a) f n m p e = absurd (let z : ◌≡◌ {A = ℕ} 0 1 = cc in omega arith)
+read_out (Ok _) None (Some a) n m p e = absurd (let z : ◌≡◌ {A = ℕ} 0 1 = cc in omega arith)
+read_out (Ok _) None None n m p e = go (leb n (min p most_places)) refl e
   where
-    go : (b : Bool) → leb n (min p most_places) ≡ b → pick b (Written n) (Refused (NoRoom n)) ≡ Written m → (m ≡ n) × (n ≤ min p most_places)
+    go : (b : Bool) → leb n (min p most_places) ≡ b → pick b (Ok n) (Err (NoRoom n)) ≡ Ok m → (m ≡ n) × (n ≤ min p most_places)
     go true z e = (cc, leb-true n (min p most_places) z)
     go false z e = absurd (refused_not_read m (NoRoom n) e)
 
@@ -59,7 +54,7 @@ module _ (s : List ℕ) (x : Span) where
   is-out p = refl
 
   -- what the records that a reading wrote are
-  wrote : (t : List ℕ) (n : ℕ) → answer s x (places_of t) ≡ Written n → (n ≡ kept) × (written n (after s x t) ≡ table_words (encode (block_of s x).tags))
+  wrote : (t : List ℕ) (n : ℕ) → answer s x (places_of t) ≡ Ok n → (n ≡ kept) × (written n (after s x t) ≡ table_words (encode (block_of s x).tags))
   unfolding after
   wrote t n e =
       let rs = encode (block_of s x).tags in
@@ -70,18 +65,18 @@ module _ (s : List ℕ) (x : Span) where
       (h.0, rw (e, laid_full rs t room, m) (take_at (table_words rs) (drop (width * length rs) t) (length (table_words rs)) refl))
 
   -- a reading that succeeds has no ground 1, 2 or 4
-  read_good : (p n : ℕ) → answer s x p ≡ Written n → (text_ground s ≡ Good) × ((block_of s x).far ≡ Nowhere) × (kept ≤ most_places)
+  read_good : (p n : ℕ) → answer s x p ≡ Ok n → (text_ground s ≡ Ok tt) × ((block_of s x).far ≡ None) × (kept ≤ most_places)
   unfolding answer read_ground
   read_good p n e = go (text_ground s) (block_of s x).long (block_of s x).far refl refl e
     where
-      go : (c : Checked) (l f : Found) → text_ground s ≡ c → (block_of s x).far ≡ f → out c l f kept p ≡ Written n → (text_ground s ≡ Good) × ((block_of s x).far ≡ Nowhere) × (kept ≤ most_places)
-      go (Bad b) l f u v e = absurd (refused_not_read n b e)
-      go Good (At a) f u v e = absurd (let z : ◌≡◌ {A = ℕ} 0 1 = cc in omega arith)
-      go Good Nowhere (At a) u v e = absurd (let z : ◌≡◌ {A = ℕ} 0 1 = cc in omega arith)
-      go Good Nowhere Nowhere u v e = (u, v, omega (arith, (read_out Good Nowhere Nowhere kept n p e).1))
+      go : (c : Checked) (l f : Option ℕ) → text_ground s ≡ c → (block_of s x).far ≡ f → out c l f kept p ≡ Ok n → (text_ground s ≡ Ok tt) × ((block_of s x).far ≡ None) × (kept ≤ most_places)
+      go (Err b) l f u v e = absurd (refused_not_read n b e)
+      go (Ok _) (Some a) f u v e = absurd (let z : ◌≡◌ {A = ℕ} 0 1 = cc in omega arith)
+      go (Ok _) None (Some a) u v e = absurd (let z : ◌≡◌ {A = ℕ} 0 1 = cc in omega arith)
+      go (Ok _) None None u v e = (u, v, omega (arith, (read_out (Ok tt) None None kept n p e).1))
 
   -- 01: a table holds a block if the reading into it succeeded; `whole_in` and `braces_in` say that x lies inside the text for both calls
-  pub holds : SpanIn s x → (t : List ℕ) (n : ℕ) → answer s x (places_of t) ≡ Written n → Holds (written n (after s x t)) (block_of s x).tags
+  pub holds : SpanIn s x → (t : List ℕ) (n : ℕ) → answer s x (places_of t) ≡ Ok n → Holds (written n (after s x t)) (block_of s x).tags
   holds inside t n e =
       let l = (block_of s x).tags in
       let g = read_good (places_of t) n e in

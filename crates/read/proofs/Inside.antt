@@ -14,26 +14,25 @@ use Rattle.survey.proofs.Laws.{unplain_wider}
 use Rattle.survey.proofs.Long.{Ends, long-first, long_unplain}
 use Rattle.survey.proofs.Fields.{trim_ends}
 use Rattle.lists.specs.Lists.{first_of}
-use Rattle.lists.specs.declared.Found.{Found}
-use Rattle.lists.specs.declared.Found.TheVariants.{Nowhere, At}
+use Rattle.std.specs.Prelude.{Option, Some, None}
 
 -- ---- numerals
 
 -- a place, if there is one, from i on and before e, where the text is not plain
-pub data Between (s : List ℕ) (top i e : ℕ) : Found → Type 0 where
-  nowhere : Between s top i e Nowhere
-  there : (p : ℕ) → i ≤ p → p < e → Unplain s top i e → Between s top i e (At p)
+pub data Between (s : List ℕ) (top i e : ℕ) : Option ℕ → Type 0 where
+  nowhere : Between s top i e None
+  there : (p : ℕ) → i ≤ p → p < e → Unplain s top i e → Between s top i e (Some p)
 
-pub between_wider : {s : List ℕ} {top i j k e : ℕ} {f : Found} → i ≤ j → k ≤ e → Between s top j k f → Between s top i e f
+pub between_wider : {s : List ℕ} {top i j k e : ℕ} {f : Option ℕ} → i ≤ j → k ≤ e → Between s top j k f → Between s top i e f
 between_wider a b nowhere = nowhere
 between_wider a b (there p l h u) = there p (omega arith) (omega arith) (unplain_wider a b u)
 
-pub between_first : {s : List ℕ} {top i e : ℕ} {f g : Found} → Between s top i e f → Between s top i e g → Between s top i e (first_of f g)
+pub between_first : {s : List ℕ} {top i e : ℕ} {f g : Option ℕ} → Between s top i e f → Between s top i e g → Between s top i e (first_of f g)
 between_first nowhere b = b
 between_first (there p l h u) b = there p l h u
 
 -- in a plain text there is none
-pub between_none : {s : List ℕ} {top i e : ℕ} {f : Found} → (Unplain s top i e → ⊥) → Between s top i e f → f ≡ Nowhere
+pub between_none : {s : List ℕ} {top i e : ℕ} {f : Option ℕ} → (Unplain s top i e → ⊥) → Between s top i e f → f ≡ None
 between_none h nowhere = refl
 between_none h (there p l k u) = absurd (h u)
 

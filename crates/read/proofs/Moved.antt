@@ -9,25 +9,22 @@ use lib.ListN.{length, get_or, take, drop, length-drop, take-append-drop, get_or
 use lib.Seq.{get_or-append-add, length-take-le, drop-drop}
 use lib.Dec.{eqb}
 use lib.Ieee.{Float}
-use Rattle.scan.specs.Scan.{in_class, closing_to, trim_start}
-use Rattle.scan.specs.declared.Class.TheVariants.{Digit, Letter, Not, Neither}
+use Rattle.scan.specs.Scan.{digit, letter, none_of, other, closing_to, trim_start}
 use Rattle.scan.proofs.Laws.{le_or_lt}
 use Rattle.numeral.specs.Numeral.{F32, too_long_lem, number, f32_at}
 use Rattle.lists.specs.Lists.{first_of}
-use Rattle.lists.specs.declared.Found.{Found}
-use Rattle.lists.specs.declared.Found.TheVariants.{Nowhere, At}
+use Rattle.std.specs.Prelude.{Option, Some, None}
 use Rattle.tag.specs.Tag.{most_depth, Tags, none, and, append}
 use Rattle.tag.proofs.Tags.{count_map}
 use Rattle.plain.specs.Names.{key_at, t_key}
-use Rattle.plain.specs.Plain.{One, no, long, kept, far, plain_at_lem}
+use Rattle.plain.specs.Plain.{One, no, long, kept, far, plain_at}
 use Rattle.read.specs.declared.Head.{Head}
 use Rattle.read.specs.Block.{Got, join, one_got, param_at, head_at, Peel, peeled, with_head, peel_head, head_end, peel, peel_to, t_of, tag_at, walk, tags_in, t_at, parse}
 use Rattle.read.specs.Moved.{moved_part, moved_tag, moved_tags, moved_found, moved, inner_text, AsAlone}
-use Rattle.refusal.specs.Answer.{unless_bad}
+use Rattle.refusal.specs.Answer.{Answer, unless_bad}
 use Rattle.tag.specs.Table.{places_of}
 use Rattle.read.specs.Reading.{kept_tags, read_ground, whole_text, less_braces, block_of, answer, Answered}
 use Rattle.refusal.specs.Refusal.{text_ground}
-use Rattle.refusal.specs.declared.Answer.{Answer}
 use Rattle.read.specs.declared.Span.{Span}
 use Rattle.read.proofs.Parts.{SpanIn, braces_in}
 use Rattle.read.proofs.MovedScan.{Window, On, either, if_lt, on, next, gap, ltb_on, eqb_on, byte, span_on, closing_on, past_on, trim_start_on}
@@ -38,9 +35,9 @@ use Rattle.read.proofs.Walk.{parse-end}
 -- ---- what tags give, moved on
 
 module _ (k : ℕ) where
-  first-moved : (a b : Found) → first_of (moved_found k a) (moved_found k b) ≡ moved_found k (first_of a b)
-  first-moved Nowhere b = refl
-  first-moved (At p) b = refl
+  first-moved : (a b : Option ℕ) → first_of (moved_found k a) (moved_found k b) ≡ moved_found k (first_of a b)
+  first-moved None b = refl
+  first-moved (Some p) b = refl
 
   append-moved : (a b : Tags) → append (moved_tags k a) (moved_tags k b) ≡ moved_tags k (append a b)
   unfolding append moved_tags moved_tag
@@ -96,7 +93,7 @@ module _ {w s : List ℕ} {k n : ℕ} (v : Window w s k n) where
   param_on : {name' name i' i e' e : ℕ} → On k n name' name → On k n i' i → On k n e' e → HeadOn k n (param_at w name' i' e') (param_at s name i e)
   unfolding param_at
   param_on {name'} {name} {i'} {i} {e'} {e} a h g =
-      let d = span_on v h g (in_class (Not 92)) in
+      let d = span_on v h g (other 92) in
       let bare : HeadOn k n _ _ = record { name = a; end = h; p = h; q = d; next = d } in
       rw (ltb_on h g)
       (if_lt (HeadOn k n) i e
@@ -111,13 +108,13 @@ module _ {w s : List ℕ} {k n : ℕ} (v : Window w s k n) where
   head_on : {i' i e' e : ℕ} → On k n i' i → On k n e' e → i < n → HeadOn k n (head_at w i' e') (head_at s i e)
   head_on h g l =
       let r = next h l in
-      param_on r (span_on v (past_on v r g (in_class (Digit 10))) g (in_class Letter)) g
+      param_on r (span_on v (past_on v r g (digit 10)) g letter) g
 
   peel-from : (m : ℕ) {i' i q' q : ℕ} → On k n i' i → On k n q' q → PeelOn k n (peel w q' m i') (peel s q m i)
   unfolding peel
   peel-from zero h g = peeled_on h
   peel-from (suc m) {i'} {i} {q'} {q} h g =
-      let f = span_on v h g (in_class (Neither 44 92)) in
+      let f = span_on v h g (none_of 44 92) in
       rw (f32_on v h f)
       (head_peel_on h g f (λ l. byte v f (omega arith)) (λ l. peel-from m (trim_start_on v (next f (omega arith)) g) g) (f32_at s i (head_end s i q)))
 
@@ -131,7 +128,7 @@ module _ {w s : List ℕ} {k n : ℕ} (v : Window w s k n) where
     tag_on : {i' i : ℕ} {h' h : Head} → On k n i' i → HeadOn k n h' h → tag_at inner' w i' h' ≡ moved k (tag_at inner s i h)
     unfolding tag_at
     tag_on {i'} {i} {h'} {h} a r =
-        rw (key_at_on v r.name r.end, same h'.p h.p h'.q h.q r.p r.q, plain_on v r.name r.end r.p r.q, a.is, one-moved k i (plain_at_lem s h.name h.end h.p h.q))
+        rw (key_at_on v r.name r.end, same h'.p h.p h'.q h.q r.p r.q, plain_on v r.name r.end r.p r.q, a.is, one-moved k i (plain_at s h.name h.end h.p h.q))
         (either (λ x y. x ≡ moved k y) (eqb (key_at s h.name h.end) t_key) refl refl)
 
     walk_on : (m : ℕ) {i' i e' e : ℕ} → On k n i' i → On k n e' e → walk inner' w e' m i' ≡ moved k (walk inner s e m i)

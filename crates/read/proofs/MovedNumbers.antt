@@ -6,8 +6,7 @@ use native.Mathlib.Omega.{arith}
 use lib.IntN.{ℤ}
 use lib.ListN.{get_or}
 use lib.Dec.{leb, eqb}
-use Rattle.scan.specs.Scan.{digit_of, in_class}
-use Rattle.scan.specs.declared.Class.TheVariants.{Digit, Not, Either}
+use Rattle.scan.specs.Scan.{digit_of, digit, one_of, other}
 use Rattle.numeral.specs.declared.Decimal.{Decimal}
 use Rattle.numeral.specs.Numeral.{is_digit, is_sign, is_minus, is_plus, is_point, is_e, value, whole_number, i32_of, i32_at, hex_at, split_at, exponent_at, F32, too_long_lem, number, digit_count, before, behind, float_of, limited, exponent_start, exponent_of, ends_at, f32_of, f32_at}
 use Rattle.colour.specs.declared.Stretch as Colour
@@ -51,7 +50,7 @@ module _ {w s : List ℕ} {k n : ℕ} (v : Window w s k n) where
 
     whole_on : (radix : ℕ) → whole_number radix w i' e' ≡ whole_number radix s i e
     unfolding whole_number
-    whole_on radix = rw (ltb_on h g, eqb_on (span_on v h g (in_class (Digit radix))) g, value-to radix 0)
+    whole_on radix = rw (ltb_on h g, eqb_on (span_on v h g (digit radix)) g, value-to radix 0)
 
   module _ {a' a b' b : ℕ} (h : On k n a' a) (g : On k n b' b) where
     i32_of_on : i32_of w a' b' ≡ i32_of s a b
@@ -132,7 +131,7 @@ module _ {w s : List ℕ} {k n : ℕ} (v : Window w s k n) where
     digits_on =
         let t = trimmed_on h g in
         let u = ampersands_on t.from t.to in
-        let x = span_on v u.from u.to (in_class (Either 72 104)) in
+        let x = span_on v u.from u.to (one_of 72 104) in
         record { from = skip_on v zero_xat zero_x_fits (λ i' i e' e h g. zero_x_on h g) x u.to; to = u.to }
 
     pub alpha_on : alpha_at w p' q' ≡ alpha_at s p q
@@ -165,7 +164,7 @@ module _ {w s : List ℕ} {k n : ℕ} (v : Window w s k n) where
   unfolding split
   split_from zero h g = more h g none
   split_from (suc m) {p'} {p} {e'} {e} h g =
-      let c = span_on v h g (in_class (Not 44)) in
+      let c = span_on v h g (other 44) in
       rw (ltb_on c g) (if_lt (Parts k n) (comma_to s p e) e (λ l. more h c (split_from m (next c (omega arith)) g)) (more h c none))
 
   pub parts_on : {p' p e' e : ℕ} → On k n p' p → On k n e' e → Parts k n (parts w p' e') (parts s p e)

@@ -12,16 +12,14 @@ use borrow.Author.Tests.{ne_eqb}
 use Rattle.scan.specs.Scan.{pick, trim_start, trim_end}
 use Rattle.float.specs.Float.{round_away, round_byte}
 use Rattle.numeral.specs.Numeral.{F32, too_long_lem, number, f32_at, I32, whole, i32_at}
-use Rattle.numeral.specs.declared.Numeral.{Numeral}
-use Rattle.numeral.specs.declared.Numeral.TheVariants.{No, TooLong, Word}
+use Rattle.std.specs.Prelude.{Option, Some, None}
 use Rattle.lists.specs.Lists.{Stretch, parts}
 use Rattle.colour.specs.Colour.{alpha_at, colour_at}
-use Rattle.colour.specs.declared.Colour as C
-use Rattle.colour.specs.declared.Colour.TheVariants.{Rgb}
+use Rattle.colour.specs.declared.Rgb as C
 use Rattle.tag.specs.Tag as Tag
 use Rattle.tag.specs.Tag.{AnimatedTag, Be, Pbo, R}
 use Rattle.plain.specs.Names.{Shape, float, pair, ranged, flag, alpha, colour, clip, beat, fad, fade, move, edge, baseline, weight, reset, unknown, names, lookup, lowered, key_at}
-use Rattle.plain.specs.Plain.{One, no, long, kept, far, part, map_f32, f32s, i32s, all_floats, floats_in, floats, ints, nth, unless_long, pair_of, move_of, fad_of, fade_of, is_far, ranged_of, weight_of, flag_of, map_alpha, map_colour, clip_of, reset_of, beat_of, shaped, is_fn, is_named_reset, plain_at_lem, nth_int}
+use Rattle.plain.specs.Plain.{One, no, long, kept, far, part, map_f32, f32s, i32s, all_floats, floats_in, floats, ints, nth, unless_long, pair_of, move_of, fad_of, fade_of, is_far, ranged_of, weight_of, flag_of, map_alpha, map_colour, clip_of, reset_of, beat_of, shaped, is_fn, is_named_reset, plain_at, nth_int}
 use Rattle.plain.proofs.Every.{Every, gather, find}
 use Rattle.read.specs.Moved.{moved_part, moved_tag}
 use Rattle.read.proofs.MovedScan.{Window, On, either, if_eq, if_le, if_lt, next, gap, ltb_on, leb_on, byte, trim_start_on, trim_end_on}
@@ -129,14 +127,13 @@ module _ (k : ℕ) where
       either Moves (eqb n 0) refl (either Moves (eqb n 1) refl (either Moves (leb 100 n) (either Moves (leb n 900) refl refl) refl))
   stay_weight (whole (negsuc n)) = refl
 
-  stay_alpha : (f : ℕ → AnimatedTag) → ((n : ℕ) → moved_tag k (f n) ≡ f n) → (y : Numeral) → Stays (map_alpha f y)
-  stay_alpha f h No = refl
-  stay_alpha f h (TooLong p) = refl
-  stay_alpha f h (Word n) = rw (h n)
+  stay_alpha : (f : ℕ → AnimatedTag) → ((n : ℕ) → moved_tag k (f n) ≡ f n) → (y : Option ℕ) → Stays (map_alpha f y)
+  stay_alpha f h None = refl
+  stay_alpha f h (Some n) = rw (h n)
 
-  stay_colour : (f : Tag.Rgb → AnimatedTag) → ((c : Tag.Rgb) → moved_tag k (f c) ≡ f c) → (y : C.Colour) → Stays (map_colour f y)
-  stay_colour f h C.Colour.No = refl
-  stay_colour f h (Rgb r g b) = rw (h (record { red = r; green = g; blue = b }))
+  stay_colour : (f : Tag.Rgb → AnimatedTag) → ((c : Tag.Rgb) → moved_tag k (f c) ≡ f c) → (y : Option C.Rgb) → Stays (map_colour f y)
+  stay_colour f h None = refl
+  stay_colour f h (Some c) = rw (h (record { red = c.red; green = c.green; blue = c.blue }))
 
 part_on : {k n p' p q' q : ℕ} → On k n p' p → On k n q' q → part p' q' ≡ moved_part k (part p q)
 unfolding part
@@ -238,8 +235,8 @@ module _ {w s : List ℕ} {k n : ℕ} (v : Window w s k n) where
       is_named_reset_on = rw (gap h g, leb_on d c) (if_le ◌≡◌ 2 (m - i) (λ l. rw (lowered_on 1 h (omega arith))) refl)
 
       -- one tag, \t apart
-      pub plain_on : plain_at_lem w i' m' p' q' ≡ moved_one k (plain_at_lem s i m p q)
-      unfolding plain_at_lem moved_tag
+      pub plain_on : plain_at w i' m' p' q' ≡ moved_one k (plain_at s i m p q)
+      unfolding plain_at moved_tag
       plain_on =
           let one : On k (n + 2) (i' + 1) (i + 1) = record { is = omega arith; fits = omega arith } in
           let two : On k (n + 2) (i' + 2) (i + 2) = record { is = omega arith; fits = omega arith } in

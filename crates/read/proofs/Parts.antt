@@ -9,8 +9,7 @@ use native.Mathlib.Nat.{le_refl, le_trans}
 use lib.ListN.{length, get_or}
 use lib.Dec.{ltb, eqb}
 use borrow.Author.Tests.{ne_eqb, eqb-true}
-use Rattle.scan.specs.Scan.{pick, in_class, span_to, past, trim_start, opened, closing, closing_to, trim_end}
-use Rattle.scan.specs.declared.Class.TheVariants.{Digit, Letter, Is, Not, Neither}
+use Rattle.scan.specs.Scan.{pick, digit, letter, none_of, only, other, span_to, past, trim_start, opened, closing, closing_to, trim_end}
 use Rattle.scan.proofs.Laws.{picked, span-low, closing-low}
 use Rattle.numeral.specs.Numeral.{F32}
 use Rattle.numeral.proofs.Reach.{Bounded}
@@ -19,7 +18,7 @@ use Rattle.survey.proofs.Laws.{unplain_wider}
 use Rattle.survey.proofs.Long.{Ends, byte_stops}
 use Rattle.tag.specs.Tag.{append}
 use Rattle.plain.specs.Names.{key_at, t_key}
-use Rattle.plain.specs.Plain.{plain_at_lem}
+use Rattle.plain.specs.Plain.{plain_at}
 use Rattle.read.specs.declared.Head.{Head}
 use Rattle.read.specs.declared.Span.{Span}
 use Rattle.read.specs.Block.{Got, nothing, join, one_got, param_at, name_end, head_at, Peel, peeled, peel_head, head_end, peel, peel_to, t_of, tag_at, walk, tags_in, t_at, parse}
@@ -62,20 +61,20 @@ module _ (s : List ℕ) (name i e : ℕ) where
   param_in : i ≤ e → In (param_at s name i e)
   unfolding param_at
   param_in h =
-      let d = span_to (in_class (Not 92)) s i e in
+      let d = span_to (other 92) s i e in
       let bare : In (record { name = name; end = i; p = i; q = d; next = d }) = record {
         is = refl;
         name_is = refl;
         end_is = refl;
         low = le_refl i;
-        order = span-low (in_class (Not 92)) s (e - i) i;
+        order = span-low (other 92) s (e - i) i;
         next_low = le_refl d;
-        high = span_to-high (in_class (Not 92)) s i e h;
+        high = span_to-high (other 92) s i e h;
       } in
       tested In i e (λ (l : i < e). picked In (eqb (get_or s i 0) 40) _ _ (closed_in l) bare) (λ (l : e ≤ i). bare)
 
 name-high : (s : List ℕ) (i e : ℕ) → i ≤ e → name_end s i e ≤ e
-name-high s i e h = span_to-high (in_class Letter) s (past (in_class (Digit 10)) s i e) e (past-high (in_class (Digit 10)) s i e h)
+name-high s i e h = span_to-high letter s (past (digit 10) s i e) e (past-high (digit 10) s i e h)
 
 head_in : (s : List ℕ) (i e : ℕ) → i < e → HeadIn (i + 1) (name_end s (i + 1) e) e (head_at s i e) (head_at s i e)
 head_in s i e h = param_in s (i + 1) (name_end s (i + 1) e) e (name-high s (i + 1) e (omega arith))
@@ -90,7 +89,7 @@ closing_stops : is_stop 41 ≡ true
 unfolding is_stop
 closing_stops = refl
 
-neither_stops : (b : ℕ) → in_class (Neither 44 92) b ≡ false → is_stop b ≡ true
+neither_stops : (b : ℕ) → none_of 44 92 b ≡ false → is_stop b ≡ true
 unfolding is_stop
 neither_stops b e = go (eqb b 44) (eqb b 92) refl refl e
   where
@@ -123,7 +122,7 @@ closing-is s (suc n) i k h = go (eqb (get_or s i 0) 40) (eqb (get_or s i 0) 41) 
 param_ends : (s : List ℕ) (top name i e : ℕ) → i ≤ e → Ends s top e → Ends s top (param_at s name i e).q
 unfolding param_at
 param_ends s top name i e h f =
-    let bare : Ends s top (span_to (in_class (Not 92)) s i e) = span-ends (in_class (Not 92)) s top i e (not_stops 92 slash_stops) h f in
+    let bare : Ends s top (span_to (other 92) s i e) = span-ends (other 92) s top i e (not_stops 92 slash_stops) h f in
     tested (λ (r : Head). Ends s top r.q) i e
     (λ (l : i < e). picked (λ (r : Head). Ends s top r.q) (eqb (get_or s i 0) 40) _ _
     (let z : i + 1 + (e - (i + 1)) ≡ e = omega arith in
@@ -161,12 +160,12 @@ unfolding peel
 peel_in s top q zero i h g f = peeled_in (le_refl i) h
 peel_in s top q (suc n) i h g f =
     let k = head_end s i q in
-    let low : i ≤ head_end s i q = span-low (in_class (Neither 44 92)) s (q - i) i in
-    head_peels s top i q k (get_or s k 0) (peel s q n (trim_start s (k + 1) q)) low (span_to-high (in_class (Neither 44 92)) s i q h)
+    let low : i ≤ head_end s i q = span-low (none_of 44 92) s (q - i) i in
+    head_peels s top i q k (get_or s k 0) (peel s q n (trim_start s (k + 1) q)) low (span_to-high (none_of 44 92) s i q h)
     (λ (y : head_end s i q < q).
     let a : head_end s i q + 1 ≤ trim_start s (head_end s i q + 1) q = trim_start-low s (k + 1) q in
     later_in (omega arith) (peel_in s top q n (trim_start s (k + 1) q) (trim_start-high s (k + 1) q (omega arith)) g f))
-    (f32_in s top i k (le_trans (span_to-high (in_class (Neither 44 92)) s i q h) g) (span-ends (in_class (Neither 44 92)) s top i q neither_stops h f))
+    (f32_in s top i k (le_trans (span_to-high (none_of 44 92) s i q h) g) (span-ends (none_of 44 92) s top i q neither_stops h f))
 
 pub peel_to_in : (s : List ℕ) (top p q : ℕ) → p ≤ q → q ≤ top → Ends s top q → PeelIn s top p q (peel_to s p q)
 peel_to_in s top p q h g f =
@@ -181,7 +180,7 @@ peel_to_in s top p q h g f =
 module _ (s : List ℕ) (top : ℕ) (P : ℕ → ℕ → ℕ → Got → Type 0)
     (none_has : (d i e : ℕ) → i ≤ e → P d i e nothing)
     (join-has : (d i k e : ℕ) (g h : Got) → i ≤ k → k ≤ e → P d i k g → P d k e h → P d i e (join g h))
-    (plain-has : (d i m p q e : ℕ) → get_or s i 0 ≡ 92 → i < m → m ≤ p → p ≤ q → q ≤ e → q ≤ top → Ends s top q → P d i e (one_got i (plain_at_lem s (i + 1) m p q)))
+    (plain-has : (d i m p q e : ℕ) → get_or s i 0 ≡ 92 → i < m → m ≤ p → p ≤ q → q ≤ e → q ≤ top → Ends s top q → P d i e (one_got i (plain_at s (i + 1) m p q)))
     (t-has : (d i p q e : ℕ) (l : Peel) (g : Got) → get_or s i 0 ≡ 92 → i < p → q ≤ e → PeelIn s top p q l → P d l.rest q g → P (suc d) i e (t_of l g)) where
   -- a byte that is a backslash, or any
   slashed : (i : ℕ) (Q : Got → Type 0) {x y : Got} → (get_or s i 0 ≡ 92 → Q x) → Q y → Q (pick (eqb (get_or s i 0) 92) x y)
@@ -244,6 +243,6 @@ unfolding less_braces
 braces_in s =
     let a = trim_start s 0 (length s) in
     let b = trim_end s a (length s) in
-    let p = past (in_class (Is 123)) s a b in
+    let p = past (only 123) s a b in
     let l : a ≤ b = trim_end-low s a (length s) (trim_start-high s 0 (length s) (omega arith)) in
-    record { order = brace_low s p b (past-high (in_class (Is 123)) s a b l); high = le_trans (brace_high s p b) (trim_end-high s a (length s)) }
+    record { order = brace_low s p b (past-high (only 123) s a b l); high = le_trans (brace_high s p b) (trim_end-high s a (length s)) }

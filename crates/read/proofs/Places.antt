@@ -7,18 +7,15 @@ use native.Mathlib.Omega.{arith}
 use native.Mathlib.Nat.{le_refl, le_trans}
 use lib.ListN.{length, get_or}
 use Rattle.refusal.specs.Refusal.{most_bytes, most_places, text_ground}
-use Rattle.refusal.specs.declared.Checked.TheVariants.{Good}
+use Rattle.std.specs.Prelude.{Ok, Option, Some, None}
 use borrow.Author.Tests.{le-leb}
 use Rattle.survey.specs.Survey.{slashes_to, Straight}
 use Rattle.survey.proofs.Laws.{unplain_wider, slashes-one, slashes-split, slashes-inside, slashes-most}
-use Rattle.lists.specs.declared.Found.{Found}
-use Rattle.lists.specs.declared.Found.TheVariants.{Nowhere, At}
 use Rattle.tag.specs.Tag.{T, Tags, count}
 use Rattle.tag.proofs.Tags.{count_none, count-single, count-and, count-append}
 use Rattle.plain.specs.Plain.{One}
 use Rattle.plain.proofs.Gives.{Single}
 use Rattle.plain.proofs.Bridge.{plain-single}
-use Rattle.refusal.specs.declared.Answer.TheVariants.{Written}
 use Rattle.refusal.proofs.Laws.{good-short, Within, room_within, text-within, Few, room-few, unless-few}
 use Rattle.read.specs.declared.Span.{Span}
 use Rattle.read.specs.Block.{head_times, head_accel, Got, nothing as none, join, one_got, Peel, t_of, parse}
@@ -74,7 +71,7 @@ placed d s i e =
 -- ---- a plain text
 
 -- where a first look finds nothing, all kept tags are read: grounds 3, 4 and 9 cannot stand
-pub straight_read : (s : List ℕ) (x : Span) (places : ℕ) → SpanIn s x → text_ground s ≡ Good → Straight s x.from x.to (min places most_places) → answer s x places ≡ Written (kept_tags (block_of s x))
+pub straight_read : (s : List ℕ) (x : Span) (places : ℕ) → SpanIn s x → text_ground s ≡ Ok tt → Straight s x.from x.to (min places most_places) → answer s x places ≡ Ok (kept_tags (block_of s x))
 unfolding answer read_ground
 straight_read s x places inside good f =
     let r = placed most_depth s x.from x.to inside.order (le_trans inside.high (good-short s good)) in
@@ -91,7 +88,7 @@ module _ (s : List ℕ) (x : Span) (places : ℕ) where
         let r = placed most_depth s x.from x.to inside.order (le_trans inside.high l) in
         go r.long r.far (le_trans (le_trans r.few (slashes-most s x.from x.to)) (omega (arith, inside.high)))
       where
-        go : {f g : Found} {n : ℕ} → Between s x.to x.from x.to f → Between s x.to x.from x.to g → n ≤ length s → Within s (read_ground f g n places)
+        go : {f g : Option ℕ} {n : ℕ} → Between s x.to x.from x.to f → Between s x.to x.from x.to g → n ≤ length s → Within s (read_ground f g n places)
         go (there p a b u) v h = (omega (arith, inside.high), omega (arith, inside.high))
         go nowhere (there p a b u) h = (omega (arith, inside.high), omega (arith, inside.high))
         go {n = n} nowhere nowhere h = room_within s n places l h
@@ -101,11 +98,11 @@ module _ (s : List ℕ) (x : Span) (places : ℕ) where
     unfolding answer
     ground-within = text-within s (read_ground (block_of s x).long (block_of s x).far (kept_tags (block_of s x)) places) read_within
 
-  few-ground : (f g : Found) (n : ℕ) → Few (read_ground f g n places)
+  few-ground : (f g : Option ℕ) (n : ℕ) → Few (read_ground f g n places)
   unfolding read_ground
-  few-ground (At p) g n = tt
-  few-ground Nowhere (At p) n = tt
-  few-ground Nowhere Nowhere n = room-few n places
+  few-ground (Some p) g n = tt
+  few-ground None (Some p) n = tt
+  few-ground None None n = room-few n places
 
   -- an answer counts at most 1,024 records
   pub few_read : Few (answer s x places)

@@ -2,28 +2,22 @@
 use mathlib.Core.Path.{◌≡◌, refl}
 use mathlib.Core.List.{List}
 use mathlib.Core.Logic.{inl}
-use Prim.Native.Nat.{ℕ, ◌≤◌, ◌<◌}
+use Prim.Native.Nat.{ℕ, ◌≤◌}
 use native.Mathlib.Omega.{arith}
 use native.Mathlib.Nat.{le_refl}
-use borrow.Author.Tests.{ne_eqb}
 use Rattle.refusal.specs.Refusal.{most_bytes}
-use Rattle.lists.specs.declared.Found.{Found}
-use Rattle.lists.specs.declared.Found.TheVariants.{At}
-use Rattle.plain.specs.Plain.{One, plain_at_lem}
+use Rattle.std.specs.Prelude.{Option}
+use Rattle.plain.specs.Plain.{One, plain_at}
 use Rattle.plain.specs.Inner.{kept_of}
 use Rattle.plain.specs.declared.Kept.{Kept}
 use Rattle.read.specs.declared.Peeled.{Peeled}
 use Rattle.read.specs.Block.{peel_to}
-use Rattle.read.specs.Inner.{Peels, no_place, found_of, InWord, kept_got}
+use Rattle.read.specs.Inner.{Peels, InWord, kept_got}
 use Rattle.read.proofs.Inside.{Between, nowhere, there}
 use Rattle.read.proofs.Fine.{Fine, nothing, late, tag, away, plain-fine}
 use Rattle.read.proofs.Parts.{peel_to_in}
 
--- the word of a place stands for it
-pub found_at : (p : ℕ) → p < no_place → found_of p ≡ At p
-found_at p h = rw (ne_eqb p no_place (λ z. omega arith))
-
-between_word : {s : List ℕ} {top i e : ℕ} {f : Found} → e ≤ most_bytes → Between s top i e f → InWord f
+between_word : {s : List ℕ} {top i e : ℕ} {f : Option ℕ} → e ≤ most_bytes → Between s top i e f → InWord f
 between_word h nowhere = tt
 between_word h (there p a b u) = omega arith
 
@@ -34,7 +28,7 @@ fine_word i h (tag x) = tt
 fine_word i h (away x u) = tt
 
 -- a numeral that is too long: of a plain tag, and before the tags of a \t
-pub plain_word : (s : List ℕ) (i a b p q : ℕ) (k : Kept) → b ≤ p → p ≤ q → q ≤ most_bytes → k ≡ kept_of (plain_at_lem s a b p q) → InWord (kept_got i k).long
+pub plain_word : (s : List ℕ) (i a b p q : ℕ) (k : Kept) → b ≤ p → p ≤ q → q ≤ most_bytes → k ≡ kept_of (plain_at s a b p q) → InWord (kept_got i k).long
 plain_word s i a b p q k g h l e = rw e (fine_word i l (plain-fine s q p q h l (le_refl q) (inl refl) a b (omega arith)))
 
 pub peel_word : (s : List ℕ) (p q : ℕ) (l : Peeled) → p ≤ q → q ≤ most_bytes → Peels p q (peel_to s p q) l → InWord l.long

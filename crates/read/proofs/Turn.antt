@@ -10,10 +10,10 @@ use Rattle.scan.specs.Scan.{trim_start}
 use Rattle.scan.proofs.Laws.{picked}
 use lib.ListN.{length, get_or, take, drop, length-append, length-drop, take-append-drop}
 use lib.Seq.{length-take-le}
+use Rattle.std.proofs.lemmas.List.{set_past}
 use borrow.Author.Tests.{ne_eqb}
 use Rattle.lists.specs.Lists.{first_of}
-use Rattle.lists.specs.declared.Found.{Found}
-use Rattle.lists.specs.declared.Found.TheVariants.{Nowhere, At}
+use Rattle.std.specs.Prelude.{Option, Some, None}
 use Rattle.float.specs.Float.{to_word}
 use Rattle.numeral.specs.Numeral.{F32, number, too_long_lem, f32_at}
 use Rattle.rows.specs.Rows.{laid_rows}
@@ -24,7 +24,7 @@ use Rattle.tag.proofs.Table.{length-laid, laid-t, laid_step}
 use Rattle.tag.specs.Tag.{T, Tags, and, count}
 use Rattle.tag.proofs.Tags.{encode-append, count_none, count-and, count-length, count-single, count-append}
 use Rattle.plain.specs.Names.{key_at, t_key}
-use Rattle.plain.specs.Plain.{One, no, long, kept, far, plain_at_lem, or_zero, time_of}
+use Rattle.plain.specs.Plain.{One, no, long, kept, far, plain_at, or_zero, time_of}
 use Rattle.plain.specs.Inner.{kept_of, cut_word}
 use Rattle.plain.specs.declared.Kept.{Kept}
 use Rattle.plain.proofs.Numbers.{Back, f32-back}
@@ -32,10 +32,9 @@ use Rattle.plain.proofs.Gives.{Single}
 use Rattle.plain.proofs.Bridge.{plain-single}
 use Rattle.read.specs.declared.Out.{Out}
 use Rattle.read.specs.declared.Head.{Head}
-use Rattle.read.specs.declared.Heads.{Heads}
 use Rattle.read.specs.declared.Peeled.{Peeled}
 use Rattle.read.specs.Block.{Got, nothing, join, one_got, Peel, peel_head, peel, peel_to, head_times, head_accel, head_end, tag_at, parse, t_at}
-use Rattle.read.specs.Inner.{headed, heads_from, no_heads, t_words, Peels, found_of, Seen, seen_of, kept_records, kept_got, joined_out, around_out, seen_in, Told}
+use Rattle.read.specs.Inner.{heads_from, no_heads, t_words, Peels, found_of, Seen, seen_of, kept_records, kept_got, joined_out, around_out, seen_in, Told}
 use Rattle.read.specs.Reading.{kept_tags}
 use Rattle.read.proofs.Walk.{tag_plain, t-more}
 
@@ -51,10 +50,10 @@ one_seen i (far x) t s = (rw (count-single x s), rw s)
 
 -- what `parse_one` says, from what its calls say; p is where the parameter begins, as the code has it
 module _ (inner : ℕ → ℕ → Got) (s : List ℕ) (i : ℕ) (h : Head) (p : ℕ) (t : List ℕ) (k : Kept) (r : Out) (u : List ℕ) where
-  pub plain-told : ¬ (key_at s h.name h.end ≡ t_key) → h.p ≡ p → k ≡ kept_of (plain_at_lem s h.name h.end p h.q) → (seen_of r ≡ kept_got i k) × (u ≡ laid t (kept_records k)) × (r.n ≤ 1)
+  pub plain-told : ¬ (key_at s h.name h.end ≡ t_key) → h.p ≡ p → k ≡ kept_of (plain_at s h.name h.end p h.q) → (seen_of r ≡ kept_got i k) × (u ≡ laid t (kept_records k)) × (r.n ≤ 1)
       → Told t (tag_at inner s i h) (h.q - h.p + 1) r u
   plain-told n e f g =
-      let x = plain_at_lem s h.name h.end p h.q in
+      let x = plain_at s h.name h.end p h.q in
       let y = one_seen i x t (plain-single s h.name h.end p h.q) in
       rw (tag_plain inner s i h n, e) (record { out = g.0 ∙ rw f y.0; table = g.1 ∙ rw f y.1; few = omega arith })
 
@@ -79,23 +78,20 @@ peel_backs s q (suc n) i =
     let u = peel s q n (trim_start s (k + 1) q) in
     head_backs (f32_at s i k) i q k (get_or s k 0) u (f32-back s i k) (peel_backs s q n (trim_start s (k + 1) q))
 
--- from the third number on nothing changes
-headed_full : (n a b c w : ℕ) → 3 ≤ n → headed (record { count = n; w0 = a; w1 = b; w2 = c }) w ≡ record { count = n + 1; w0 = a; w1 = b; w2 = c }
-unfolding headed
-headed_full n a b c w h = simp (ne_eqb n 0 (λ z. omega arith), ne_eqb n 1 (λ z. omega arith), ne_eqb n 2 (λ z. omega arith))
-
-heads_full : (l : List Float) (n a b c m : ℕ) → 3 ≤ n → t_words (heads_from (record { count = n; w0 = a; w1 = b; w2 = c }) l) m ≡ t_words (record { count = 3; w0 = a; w1 = b; w2 = c }) m
+-- from the third number on the words stay
+heads_full : (l : List Float) (n a b c m : ℕ) → 3 ≤ n → t_words (heads_from (record { count = n; words = a ∷ b ∷ c ∷ [] }) l) m ≡ t_words (record { count = 3; words = a ∷ b ∷ c ∷ [] }) m
 unfolding heads_from t_words
 heads_full [] n a b c m h = simp (ne_eqb n 0 (λ z. omega arith), ne_eqb n 1 (λ z. omega arith), ne_eqb n 2 (λ z. omega arith))
 heads_full (v ∷ l) n a b c m h =
-    ap (λ (k : Heads). t_words (heads_from k l) m) (headed_full n a b c (bits v) h) ∙ heads_full l (n + 1) a b c m (omega arith)
+    let e = set_past (a ∷ b ∷ c ∷ []) n (bits v) h in
+    ap (λ (ws : List ℕ). t_words (heads_from (record { count = n + 1; words = ws }) l) m) e ∙ heads_full l (n + 1) a b c m (omega arith)
 
 cut-back : {x : Float} → Back x → cut_word (bits x) ≡ to_word (time_of x)
 cut-back e = rw e
 
 -- the record of a \t from the words of its numbers
 t-words : {l : List Float} → Backs l → (n : ℕ) → t_words (heads_from no_heads l) n ≡ t_record (head_times l) (head_accel l) n
-unfolding heads_from headed t_words to_bits
+unfolding heads_from t_words to_bits
 t-words none n = refl
 t-words (more e none) n = refl
 t-words (more e (more f none)) n = rw (cut-back e, cut-back f)
@@ -133,13 +129,13 @@ module _ (d : ℕ) (s : List ℕ) (p q : ℕ) (t : List ℕ) (l : Peeled) (o r :
 
 -- ---- a block
 
-first_assoc : (a b c : Found) → first_of a (first_of b c) ≡ first_of (first_of a b) c
-first_assoc Nowhere b c = refl
-first_assoc (At p) b c = refl
+first_assoc : (a b c : Option ℕ) → first_of a (first_of b c) ≡ first_of (first_of a b) c
+first_assoc None b c = refl
+first_assoc (Some p) b c = refl
 
-first-end : (a : Found) → first_of a Nowhere ≡ a
-first-end Nowhere = refl
-first-end (At p) = refl
+first-end : (a : Option ℕ) → first_of a None ≡ a
+first-end None = refl
+first-end (Some p) = refl
 
 -- where a block's reading stands: `all` is what it gives, `rest` what is still to come, t the table and o the result now
 pub record Turning (t₀ : List ℕ) (all rest : Got) (t : List ℕ) (o : Seen) : Type 0 where
@@ -149,7 +145,7 @@ pub record Turning (t₀ : List ℕ) (all rest : Got) (t : List ℕ) (o : Seen) 
   pub long : all.long ≡ first_of o.long rest.long
   pub far : all.far ≡ first_of o.far rest.far
 
-pub turning_start : (t : List ℕ) (g : Got) → Turning t g g t (record { n = 0; long = Nowhere; far = Nowhere })
+pub turning_start : (t : List ℕ) (g : Got) → Turning t g g t (record { n = 0; long = None; far = None })
 turning_start t g = record { len = refl; table = simp zero-min; count = omega arith; long = refl; far = refl }
 
 pub turning_turn : {t₀ t u : List ℕ} {all rest g : Got} {o r : Seen} {o' : Out} {k most : ℕ} → Turning t₀ all (join g rest) t o → k ≡ min (width * o.n) (length t)

@@ -8,11 +8,10 @@ use native.Mathlib.Nat.{le_refl}
 use lib.ListN.{get_or}
 use lib.Dec.{ltb, eqb}
 use borrow.Author.Tests.{eq-eqb, ne_eqb, lt-ltb, le-ltb}
-use Rattle.scan.specs.Scan.{in_class, span_to, past, closing_to}
-use Rattle.scan.specs.declared.Class.TheVariants.{Digit, Letter, Not}
+use Rattle.scan.specs.Scan.{digit, letter, other, span_to, past, closing_to}
 use Rattle.scan.proofs.Laws.{picked, span-low, closing-low}
 use Rattle.plain.specs.Names.{key_at, t_key}
-use Rattle.plain.specs.Plain.{plain_at_lem}
+use Rattle.plain.specs.Plain.{plain_at}
 use Rattle.read.specs.declared.Head.{Head}
 use Rattle.read.specs.Block.{Got, nothing, join, one_got, param_at, name_end, head_at, peel_to, t_of, tag_at, walk, parse, t_at}
 
@@ -22,7 +21,7 @@ past-low p s i e = picked (λ (j : ℕ). i ≤ j) (ltb i e) _ _ (picked (λ (j :
 param_low : (s : List ℕ) (name i e : ℕ) → i ≤ (param_at s name i e).next
 unfolding param_at
 param_low s name i e =
-    let a : i ≤ span_to (in_class (Not 92)) s i e = span-low (in_class (Not 92)) s (e - i) i in
+    let a : i ≤ span_to (other 92) s i e = span-low (other 92) s (e - i) i in
     let b : i + 1 ≤ closing_to s (i + 1) e 1 = closing-low s (e - (i + 1)) (i + 1) 1 in
     let b1 : i ≤ closing_to s (i + 1) e 1 + 1 = omega arith in
     let b2 : i ≤ closing_to s (i + 1) e 1 = omega arith in
@@ -30,8 +29,8 @@ param_low s name i e =
 
 pub name-low : (s : List ℕ) (i e : ℕ) → i ≤ name_end s i e
 name-low s i e =
-    let a = past-low (in_class (Digit 10)) s i e in
-    let b : past (in_class (Digit 10)) s i e ≤ name_end s i e = span-low (in_class Letter) s (e - past (in_class (Digit 10)) s i e) (past (in_class (Digit 10)) s i e) in
+    let a = past-low (digit 10) s i e in
+    let b : past (digit 10) s i e ≤ name_end s i e = span-low letter s (e - past (digit 10) s i e) (past (digit 10) s i e) in
     omega arith
 
 head-low : (s : List ℕ) (i e : ℕ) → i + 1 ≤ (head_at s i e).next
@@ -99,7 +98,7 @@ module _ (inner : ℕ → ℕ → Got) (s : List ℕ) (i : ℕ) (h : Head) where
   unfolding tag_at
   tag_t e = rw (eq-eqb (key_at s h.name h.end) t_key e)
 
-  pub tag_plain : ¬ (key_at s h.name h.end ≡ t_key) → tag_at inner s i h ≡ one_got i (plain_at_lem s h.name h.end h.p h.q)
+  pub tag_plain : ¬ (key_at s h.name h.end ≡ t_key) → tag_at inner s i h ≡ one_got i (plain_at s h.name h.end h.p h.q)
   unfolding tag_at
   tag_plain e = rw (ne_eqb (key_at s h.name h.end) t_key e)
 

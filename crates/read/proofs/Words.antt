@@ -12,8 +12,7 @@ use lib.Signed.{non_neg}
 use lib.Ieee.{Float, nan, inf, fin, of_bits, to_bits}
 use lib.Ieee.Bits.{is_true}
 use borrow.Author.Tests.{le-leb, lt-leb, lt-ltb, ne_eqb, leb-true, leb-false, ltb-true, ltb-false}
-use Rattle.scan.specs.Scan.{pick, in_class, trim_start, trim_end}
-use Rattle.scan.specs.declared.Class.TheVariants.{Not}
+use Rattle.scan.specs.Scan.{pick, other, trim_start, trim_end}
 use Rattle.scan.proofs.Laws.{picked, span-low}
 use Rattle.refusal.specs.Refusal.{most_bytes}
 use Rattle.float.specs.Float.{zero as plus_zero, in_reach_lem, max_zero, round_away, round_size, round_byte, to_word, of_word}
@@ -131,9 +130,9 @@ module _ (s : List ℕ) where
   parts_in top q zero p h g f = more (f32_in s top p q g f) all
   parts_in top q (suc n) p h g f =
       let c = comma_to s p q in
-      let low : p ≤ comma_to s p q = span-low (in_class (Not 44)) s (q - p) p in
-      let high : comma_to s p q ≤ q = span_to-high (in_class (Not 44)) s p q h in
-      let ends = span-ends (in_class (Not 44)) s top p q (not_stops 44 comma_stops) h f in
+      let low : p ≤ comma_to s p q = span-low (other 44) s (q - p) p in
+      let high : comma_to s p q ≤ q = span_to-high (other 44) s p q h in
+      let ends = span-ends (other 44) s top p q (not_stops 44 comma_stops) h f in
       tested (λ (l : List Stretch). All (F32In s top p q) (f32s s l)) c q
       (λ (k : c < q). more (f32_wider (le_refl p) high (f32_in s top p c (le_trans high g) ends)) (all_map (λ (x : F32) (y : F32In s top (c + 1) q x). f32_wider (omega arith) (le_refl q) y) (parts_in top q n (c + 1) (omega arith) g f)))
       (λ (k : q ≤ c). more (f32_wider (le_refl p) high (f32_in s top p c (le_trans high g) ends)) all)
@@ -174,14 +173,14 @@ module _ (s : List ℕ) where
   all_near q zero p (suc k) h = near-zero p q
   all_near q (suc n) p k h =
       let c = comma_to s p q in
-      let low : p ≤ comma_to s p q = span-low (in_class (Not 44)) s (q - p) p in
-      let high : comma_to s p q ≤ q = span_to-high (in_class (Not 44)) s p q h in
+      let low : p ≤ comma_to s p q = span-low (other 44) s (q - p) p in
+      let high : comma_to s p q ≤ q = span_to-high (other 44) s p q h in
       tested (λ (l : List Stretch). Near p q (nth_int (ints_in (i32s s l)) k)) c q
       (λ (g : c < q). first c k low high (ints_in (i32s s (split s q n (c + 1)))) (λ j. wider (nth_int (ints_in (i32s s (split s q n (c + 1)))) j) (all_near q n (c + 1) j (omega arith))))
       (λ (g : q ≤ c). first c k low high [] (λ j. near-zero p q))
     where
       wider : (z : ℤ) → Near (comma_to s p q + 1) q z → Near p q z
-      wider z f e top = unplain_wider (omega (arith, span-low (in_class (Not 44)) s (q - p) p)) (le_refl q) (f e top)
+      wider z f e top = unplain_wider (omega (arith, span-low (other 44) s (q - p) p)) (le_refl q) (f e top)
 
       first : (c k : ℕ) → p ≤ c → c ≤ q → (l : List ℤ) → ((j : ℕ) → Near p q (nth_int l j)) → Near p q (nth_int (int_of (i32_at s p c) ∷ l) k)
       first c zero a b l f = λ e top. unplain_wider (le_refl p) b (int_near p c e top)

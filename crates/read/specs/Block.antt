@@ -1,26 +1,23 @@
 -- A block's tags: Rust's `parse_overrides`, `read_param`, `parse_one`, `parse_t`, `peel_leading_numbers`, by positions of the whole text s.
 -- 01, Reading.
-use Rattle.std.specs.Prelude.{List, [], ◌∷◌, ℕ, zero, suc, ◌+◌, ◌-◌, ltb, eqb, Float, get_or}
-use Rattle.scan.specs.Scan.{pick, in_class, span_to, past, trim_start, closing_to}
-use Rattle.scan.specs.declared.Class.TheVariants.{Digit, Letter, Not, Neither}
+use Rattle.std.specs.Prelude.{List, [], ◌∷◌, ℕ, zero, suc, ◌+◌, ◌-◌, ltb, eqb, Float, get_or, Option, Some, None}
+use Rattle.scan.specs.Scan.{pick, digit, letter, none_of, other, span_to, past, trim_start, closing_to}
 use Rattle.float.specs.Float.{one}
 use Rattle.numeral.specs.Numeral.{F32, number, too_long_lem, f32_at}
 use Rattle.lists.specs.Lists.{first_of}
-use Rattle.lists.specs.declared.Found.{Found}
-use Rattle.lists.specs.declared.Found.TheVariants.{Nowhere, At}
 use Rattle.tag.specs.Tag.{Tags, and, append, Times, absent, times, T}
 use Rattle.plain.specs.Names.{key_at, t_key}
-use Rattle.plain.specs.Plain.{One, no, long, kept, far, plain_at_lem, time_of}
+use Rattle.plain.specs.Plain.{One, no, long, kept, far, plain_at, time_of}
 use Rattle.read.specs.declared.Head.{Head}
 
 -- what a text gives: the tags kept, the first numeral that is too long, the first \fade whose times lie too far off
 pub record Got : Type 0 where
   pub tags : Tags
-  pub long : Found
-  pub far : Found
+  pub long : Option ℕ
+  pub far : Option ℕ
 
 abbrev pub nothing : Got
-nothing = record { tags = Tags.none; long = Nowhere; far = Nowhere }
+nothing = record { tags = Tags.none; long = None; far = None }
 
 abbrev pub join : Got → Got → Got
 join a b = record { tags = append a.tags b.tags; long = first_of a.long b.long; far = first_of a.far b.far }
@@ -28,21 +25,21 @@ join a b = record { tags = append a.tags b.tags; long = first_of a.long b.long; 
 -- what one plain tag gives, its backslash at i
 abbrev pub one_got : ℕ → One → Got
 one_got i no = nothing
-one_got i (long p) = record { tags = Tags.none; long = At p; far = Nowhere }
-one_got i (kept x) = record { tags = and x Tags.none; long = Nowhere; far = Nowhere }
-one_got i (far x) = record { tags = and x Tags.none; long = Nowhere; far = At i }
+one_got i (long p) = record { tags = Tags.none; long = Some p; far = None }
+one_got i (kept x) = record { tags = and x Tags.none; long = None; far = None }
+one_got i (far x) = record { tags = and x Tags.none; long = None; far = Some i }
 
 -- `read_param` at i: a parameter in parentheses, up to the one that closes them, else all that is left; or up to the next backslash
 unfoldable pub param_at : List ℕ → ℕ → ℕ → ℕ → Head
 param_at s name i e =
     let c = closing_to s (i + 1) e 1 in
-    let d = span_to (in_class (Not 92)) s i e in
+    let d = span_to (other 92) s i e in
     let b : Head = record { name = name; end = i; p = i; q = d; next = d } in
     pick (ltb i e) (pick (eqb (get_or s i 0) 40) (record { name = name; end = i; p = i + 1; q = c; next = pick (ltb c e) (c + 1) c }) b) b
 
 -- where the name of a tag ends that starts at i: a digit may lead, letters follow
 abbrev pub name_end : List ℕ → ℕ → ℕ → ℕ
-name_end s i e = span_to (in_class Letter) s (past (in_class (Digit 10)) s i e) e
+name_end s i e = span_to letter s (past (digit 10) s i e) e
 
 -- the tag whose backslash is at i: its name, its parameter, and the place behind both
 abbrev pub head_at : List ℕ → ℕ → ℕ → Head
@@ -52,10 +49,10 @@ head_at s i e = param_at s (i + 1) (name_end s (i + 1) e) e
 pub record Peel : Type 0 where
   pub heads : List Float
   pub rest : ℕ
-  pub long : Found
+  pub long : Option ℕ
 
 abbrev pub peeled : ℕ → Peel
-peeled i = record { heads = []; rest = i; long = Nowhere }
+peeled i = record { heads = []; rest = i; long = None }
 
 abbrev pub with_head : Float → Peel → Peel
 with_head x l = record { heads = x ∷ l.heads; rest = l.rest; long = l.long }
@@ -63,11 +60,11 @@ with_head x l = record { heads = x ∷ l.heads; rest = l.rest; long = l.long }
 -- what the head from i on gives: it ends at k, before q, at the byte b; `more` is what comes behind a comma
 abbrev pub peel_head : F32 → ℕ → ℕ → ℕ → ℕ → Peel → Peel
 peel_head F32.none i q k b more = peeled i
-peel_head (too_long_lem p) i q k b more = record { heads = []; rest = i; long = At p }
+peel_head (too_long_lem p) i q k b more = record { heads = []; rest = i; long = Some p }
 peel_head (number x) i q k b more = with_head x (pick (ltb k q) (pick (eqb b 92) (peeled k) more) (peeled q))
 
 abbrev pub head_end : List ℕ → ℕ → ℕ → ℕ
-head_end s i q = span_to (in_class (Neither 44 92)) s i q
+head_end s i q = span_to (none_of 44 92) s i q
 
 -- `peel_leading_numbers` from i to q, at most n of them
 unfoldable pub peel : List ℕ → ℕ → ℕ → ℕ → Peel
@@ -100,7 +97,7 @@ t_of l g = record { tags = and (T (head_times l.heads) (head_accel l.heads) g.ta
 unfoldable pub tag_at : (ℕ → ℕ → Got) → List ℕ → ℕ → Head → Got
 tag_at inner s i h =
     let t = inner h.p h.q in
-    let x = one_got i (plain_at_lem s h.name h.end h.p h.q) in
+    let x = one_got i (plain_at s h.name h.end h.p h.q) in
     pick (eqb (key_at s h.name h.end) t_key) t x
 
 -- the tags from i to e, over at most n bytes; a backslash with no name behind it is passed over

@@ -1,9 +1,7 @@
 -- What the inner functions say, in the code's words: nothing here is a promise to a caller.
-use Rattle.std.specs.Prelude.{◌≡◌, List, [], ◌∷◌, ℕ, ◌+◌, ◌≤◌, ◌<◌, eqb, Float}
+use Rattle.std.specs.Prelude.{◌≡◌, List, [], ◌∷◌, ℕ, ◌+◌, ◌≤◌, ◌<◌, eqb, Float, get_or, set, Option, Some, None}
 use Rattle.scan.specs.Scan.{pick}
 use Rattle.lists.specs.Lists.{first_of}
-use Rattle.lists.specs.declared.Found.{Found}
-use Rattle.lists.specs.declared.Found.TheVariants.{Nowhere, At}
 use Rattle.tag.specs.Table.{rec, bits, encode, laid}
 use Rattle.tag.specs.declared.Record.{Record}
 use Rattle.plain.specs.Inner.{cut_word}
@@ -12,6 +10,7 @@ use Rattle.plain.specs.declared.Kept.TheVariants.{No, Long, Tag, Far}
 use Rattle.read.specs.declared.Head.{Head}
 use Rattle.read.specs.declared.Heads.{Heads}
 use Rattle.read.specs.declared.Peeled.{Peeled}
+use Rattle.read.specs.declared.Found.{Found}
 use Rattle.read.specs.declared.Out.{Out}
 use Rattle.read.specs.Block.{Got, Peel}
 use Rattle.read.specs.Reading.{kept_tags, brace_end}
@@ -31,12 +30,8 @@ pub record HeadIn (name i e : ℕ) (d r : Head) : Type 0 where
 -- ---- the numbers of a \t as words, and its record
 
 -- one number more: the first three are kept
-unfoldable pub headed : Heads → ℕ → Heads
-headed h w =
-    pick (eqb h.count 0) (record { count = 1; w0 = w; w1 = 0; w2 = 0 })
-    (pick (eqb h.count 1) (record { count = 2; w0 = h.w0; w1 = w; w2 = 0 })
-    (pick (eqb h.count 2) (record { count = 3; w0 = h.w0; w1 = h.w1; w2 = w })
-    (record { count = h.count + 1; w0 = h.w0; w1 = h.w1; w2 = h.w2 })))
+abbrev pub headed : Heads → ℕ → Heads
+headed h w = record { count = h.count + 1; words = set h.words h.count w }
 
 -- all the numbers of a list
 unfoldable pub heads_from : Heads → List Float → Heads
@@ -44,18 +39,21 @@ heads_from h [] = h
 heads_from h (x ∷ l) = heads_from (headed h (bits x)) l
 
 abbrev pub no_heads : Heads
-no_heads = record { count = 0; w0 = 0; w1 = 0; w2 = 0 }
+no_heads = record { count = 0; words = 0 ∷ 0 ∷ 0 ∷ [] }
 
 abbrev pub one_bits : ℕ
 one_bits = 0x3F800000
+
+abbrev pub nth_word : Heads → ℕ → ℕ
+nth_word h n = get_or h.words n 0
 
 -- the record of a \t with n records inside
 unfoldable pub t_words : Heads → ℕ → Record
 t_words h n =
     pick (eqb h.count 0) (rec 49 0 0 0 one_bits n 0 0)
-    (pick (eqb h.count 1) (rec 49 0 0 0 h.w0 n 0 0)
-    (pick (eqb h.count 2) (rec 49 1 (cut_word h.w0) (cut_word h.w1) one_bits n 0 0)
-    (rec 49 1 (cut_word h.w0) (cut_word h.w1) h.w2 n 0 0)))
+    (pick (eqb h.count 1) (rec 49 0 0 0 (nth_word h 0) n 0 0)
+    (pick (eqb h.count 2) (rec 49 1 (cut_word (nth_word h 0)) (cut_word (nth_word h 1)) one_bits n 0 0)
+    (rec 49 1 (cut_word (nth_word h 0)) (cut_word (nth_word h 1)) (nth_word h 2) n 0 0)))
 
 -- what peeling says of its result r
 pub record Peels (p q : ℕ) (l : Peel) (r : Peeled) : Type 0 where
@@ -72,21 +70,21 @@ abbrev pub no_place : ℕ
 no_place = 4294967295
 
 -- the place that a word stands for
-abbrev pub found_of : ℕ → Found
-found_of w = pick (eqb w no_place) Nowhere (At w)
+abbrev pub found_of : Found → Option ℕ
+found_of f = pick (eqb f.0 no_place) None (Some f.0)
 
 -- a place that a word can stand for
-abbrev pub InWord : Found → Type 0
-InWord Nowhere = Unit
-InWord (At p) = p < no_place
+abbrev pub InWord : Option ℕ → Type 0
+InWord None = Unit
+InWord (Some p) = p < no_place
 
 -- ---- what readers give
 
 -- how many records there are, where the first numeral is that is too long, and where the first \fade whose times lie too far off
 pub record Seen : Type 0 where
   pub n : ℕ
-  pub long : Found
-  pub far : Found
+  pub long : Option ℕ
+  pub far : Option ℕ
 
 -- what the code's result stands for
 abbrev pub seen_of : Out → Seen
@@ -100,17 +98,17 @@ kept_records (Tag r) = r ∷ []
 kept_records (Far r) = r ∷ []
 
 abbrev pub kept_got : ℕ → Kept → Seen
-kept_got i No = record { n = 0; long = Nowhere; far = Nowhere }
-kept_got i (Long p) = record { n = 0; long = At p; far = Nowhere }
-kept_got i (Tag r) = record { n = 1; long = Nowhere; far = Nowhere }
-kept_got i (Far r) = record { n = 1; long = Nowhere; far = At i }
+kept_got i No = record { n = 0; long = None; far = None }
+kept_got i (Long p) = record { n = 0; long = Some p; far = None }
+kept_got i (Tag r) = record { n = 1; long = None; far = None }
+kept_got i (Far r) = record { n = 1; long = None; far = Some i }
 
 -- one reader behind another
 abbrev pub joined_out : Seen → Seen → Seen
 joined_out a b = record { n = a.n + b.n; long = first_of a.long b.long; far = first_of a.far b.far }
 
 -- a \t around what is inside it
-abbrev pub around_out : Found → Seen → Seen
+abbrev pub around_out : Option ℕ → Seen → Seen
 around_out l o = record { n = o.n + 1; long = first_of l o.long; far = o.far }
 
 -- what a result has to stand for: all that a text gives, its tags counted

@@ -1,13 +1,10 @@
 -- 01, Braces: "its offsets still count from the text given". What a block gives that stands k bytes further on in a longer text.
-use Rattle.std.specs.Prelude.{◌≡◌, List, ℕ, ◌+◌, ◌-◌, eqb, take, drop}
+use Rattle.std.specs.Prelude.{◌≡◌, List, ℕ, ◌+◌, ◌-◌, eqb, take, drop, Option, Some, None}
 use Rattle.scan.specs.Scan.{pick}
-use Rattle.refusal.specs.declared.Answer.{Answer}
 use Rattle.read.specs.declared.Span.{Span}
-use Rattle.lists.specs.declared.Found.{Found}
-use Rattle.lists.specs.declared.Found.TheVariants.{Nowhere, At}
 use Rattle.tag.specs.Tag.{Part, AnimatedTag, Tags, none, and, fold_tag, map_own, map_parts}
 use Rattle.refusal.specs.Refusal.{text_ground}
-use Rattle.refusal.specs.Answer.{unless_bad}
+use Rattle.refusal.specs.Answer.{Answer, unless_bad}
 use Rattle.read.specs.Block.{Got}
 use Rattle.read.specs.Reading.{whole_text, block_of, kept_tags, read_ground}
 
@@ -22,9 +19,9 @@ moved_tag k x = fold_tag (map_own (moved_part k)) none and x
 unfoldable pub moved_tags : ℕ → Tags → Tags
 moved_tags k l = map_parts (moved_part k) l
 
-abbrev pub moved_found : ℕ → Found → Found
-moved_found k Nowhere = Nowhere
-moved_found k (At p) = At (k + p)
+abbrev pub moved_found : ℕ → Option ℕ → Option ℕ
+moved_found k None = None
+moved_found k (Some p) = Some (k + p)
 
 -- all that a block gives
 abbrev pub moved : ℕ → Got → Got

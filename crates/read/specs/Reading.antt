@@ -1,16 +1,11 @@
 -- What the two reading calls answer, and what the table holds afterwards.
-use Rattle.std.specs.Prelude.{◌≡◌, List, ℕ, ◌-◌, ltb, eqb, length, get_or}
-use Rattle.scan.specs.Scan.{pick, in_class, past, trim_start, trim_end}
-use Rattle.scan.specs.declared.Class.TheVariants.{Is}
-use Rattle.lists.specs.declared.Found.{Found}
-use Rattle.lists.specs.declared.Found.TheVariants.{Nowhere, At}
+use Rattle.std.specs.Prelude.{◌≡◌, List, ℕ, ◌-◌, ltb, eqb, length, get_or, Err, Option, Some, None}
+use Rattle.scan.specs.Scan.{pick, only, past, trim_start, trim_end}
 use Rattle.refusal.specs.Refusal.{text_ground}
 use Rattle.refusal.specs.declared.Refusal.TheVariants.{NumeralTooLong, FadeTooFar}
 use Rattle.tag.specs.Tag.{count}
 use Rattle.tag.specs.Table.{encode, laid, places_of}
-use Rattle.refusal.specs.declared.Answer.{Answer}
-use Rattle.refusal.specs.declared.Answer.TheVariants.{Refused}
-use Rattle.refusal.specs.Answer.{room_for, unless_bad, table_after}
+use Rattle.refusal.specs.Answer.{Answer, room_for, unless_bad, table_after}
 use Rattle.read.specs.declared.Span.{Span}
 use Rattle.read.specs.Block.{Got, parse}
 use Rattle.tag.specs.Tag.{most_depth}
@@ -20,10 +15,10 @@ abbrev pub kept_tags : Got → ℕ
 kept_tags g = count g.tags
 
 -- grounds 3, 4 and 9, on what the text gives and the number of places in the table
-unfoldable pub read_ground : Found → Found → ℕ → ℕ → Answer
-read_ground (At p) far n places = Refused (NumeralTooLong p)
-read_ground Nowhere (At p) n places = Refused (FadeTooFar p)
-read_ground Nowhere Nowhere n places = room_for n places
+unfoldable pub read_ground : Option ℕ → Option ℕ → ℕ → ℕ → Answer
+read_ground (Some p) far n places = Err (NumeralTooLong p)
+read_ground None (Some p) n places = Err (FadeTooFar p)
+read_ground None None n places = room_for n places
 
 -- the part of the text that is read: all of it, or what `parse_raw_block` leaves: trimmed, less one { and one }
 abbrev pub whole_text : List ℕ → Span
@@ -36,7 +31,7 @@ unfoldable pub less_braces : List ℕ → Span
 less_braces s =
     let a = trim_start s 0 (length s) in
     let b = trim_end s a (length s) in
-    let p = past (in_class (Is 123)) s a b in
+    let p = past (only 123) s a b in
     record { from = p; to = brace_end s p b }
 
 -- the block: what the text gives

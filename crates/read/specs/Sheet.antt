@@ -1,5 +1,5 @@
 -- Worked examples, by computation: 01's sheet where it speaks of reading, and the traps.
-use Rattle.std.specs.Prelude.{◌≡◌, refl, List, [], ◌∷◌, ◌++◌, map, ℕ, replicate}
+use Rattle.std.specs.Prelude.{◌≡◌, refl, List, [], ◌∷◌, ◌++◌, map, ℕ, replicate, Ok, Err}
 use Prim.Native.String.{String}
 use Rattle.std.specs.Float.Ieee.{round, to_bits, to_signed}
 use Rattle.scan.specs.Scan.{bytes, span, back, skip, skip_back, blank_at, blank_before, closing}
@@ -12,9 +12,8 @@ use Rattle.tag.specs.declared.Record.{Record}
 use Rattle.tag.specs.Tag.{append, count}
 use Rattle.tag.specs.Table.{rec, records, encode}
 use Rattle.plain.specs.Names.{names, lookup, lowered, key_at}
-use Rattle.plain.specs.Plain.{part, f32s, i32s, all_floats, floats_in, all_ints, ints_in, unless_long, pair_of, move_of, fad_of, fade_of, ranged_of, weight_of, flag_of, clip_of, reset_of, shaped, is_fn, is_named_reset, plain_at_lem}
-use Rattle.refusal.specs.declared.Answer.{Answer}
-use Rattle.refusal.specs.declared.Answer.TheVariants.{Written, Refused}
+use Rattle.plain.specs.Plain.{part, f32s, i32s, all_floats, floats_in, all_ints, ints_in, unless_long, pair_of, move_of, fad_of, fade_of, ranged_of, weight_of, flag_of, clip_of, reset_of, shaped, is_fn, is_named_reset, plain_at}
+use Rattle.refusal.specs.Answer.{Answer}
 use Rattle.read.specs.Block.{param_at, peel, tag_at, walk, t_at, parse}
 use Rattle.read.specs.Reading.{read_ground, whole_text, less_braces, block_of, answer}
 use Rattle.refusal.specs.Refusal.{text_ground}
@@ -58,7 +57,7 @@ pub tables : Gives records_of (
     ("\\clip(1e0,1,1,2.5E-3)", rec 11 0x3F800000 0x3F800000 0x3F800000 0x3B23D70A 0 0 0 ∷ []) ∷
     ("\\\\\\i1", rec 43 1 0 0 0 0 0 0 ∷ []) ∷
     [])
-unfolding round to_bits to_signed span back skip skip_back blank_at blank_before closing max_zero round_away round_byte value whole_number i32_of hex_at split_at exponent_at float_of f32_of trimmed ampersands zero_xat digits alpha_at colour_at split append records encode count names lookup lowered key_at part f32s i32s all_floats floats_in all_ints ints_in unless_long pair_of move_of fad_of fade_of ranged_of weight_of flag_of clip_of reset_of shaped is_fn is_named_reset plain_at_lem param_at peel tag_at walk t_at parse
+unfolding round to_bits to_signed span back skip skip_back blank_at blank_before closing max_zero round_away round_byte value whole_number i32_of hex_at split_at exponent_at float_of f32_of trimmed ampersands zero_xat digits alpha_at colour_at split append records encode count names lookup lowered key_at part f32s i32s all_floats floats_in all_ints ints_in unless_long pair_of move_of fad_of fade_of ranged_of weight_of flag_of clip_of reset_of shaped is_fn is_named_reset plain_at param_at peel tag_at walk t_at parse
 tables = refl
 
 pub raw : Gives raw_records_of (
@@ -66,27 +65,27 @@ pub raw : Gives raw_records_of (
     ("{\\rAlt}", rec 41 1 3 3 0 0 0 0 ∷ []) ∷
     ("{{\\fnArial}}", rec 39 5 5 10 1 0 0 0 ∷ []) ∷
     [])
-unfolding round to_bits to_signed span back skip skip_back blank_at blank_before closing max_zero round_away round_byte value whole_number i32_of hex_at split_at exponent_at float_of f32_of trimmed ampersands zero_xat digits alpha_at colour_at split append records encode count names lookup lowered key_at part f32s i32s all_floats floats_in all_ints ints_in unless_long pair_of move_of fad_of fade_of ranged_of weight_of flag_of clip_of reset_of shaped is_fn is_named_reset plain_at_lem param_at peel tag_at walk t_at parse less_braces
+unfolding round to_bits to_signed span back skip skip_back blank_at blank_before closing max_zero round_away round_byte value whole_number i32_of hex_at split_at exponent_at float_of f32_of trimmed ampersands zero_xat digits alpha_at colour_at split append records encode count names lookup lowered key_at part f32s i32s all_floats floats_in all_ints ints_in unless_long pair_of move_of fad_of fade_of ranged_of weight_of flag_of clip_of reset_of shaped is_fn is_named_reset plain_at param_at peel tag_at walk t_at parse less_braces
 raw = refl
 
 pub answers : Gives answer_of (
-    ("", Written 0) ∷
-    ("\\t(\\t(\\t(\\t(\\t(\\t(\\t(\\t(\\t(\\b1", Written 10) ∷
-    ("\\t(\\t(\\t(\\t(\\t(\\t(\\t(\\t(\\t(\\t(\\t(\\t(\\t(\\t(\\t(\\t(\\b1", Written 17) ∷
-    ("\\t(\\t(\\t(\\t(\\t(\\t(\\t(\\t(\\t(\\t(\\t(\\t(\\t(\\t(\\t(\\t(\\t(\\b1", Written 16) ∷
-    ("\\fs999999999", Written 1) ∷
-    ("\\fs1000000000", Refused (NumeralTooLong 3)) ∷
-    ("\\fs1e2", Written 1) ∷
-    ("\\fs1e9", Refused (NumeralTooLong 3)) ∷
-    ("\\pos(x,1e9)", Refused (NumeralTooLong 7)) ∷
-    ("\\pos(1,2, -1e9)", Refused (NumeralTooLong 10)) ∷
-    ("\\fad(1e9,5)\\foo1e9\\clip(1e9)", Written 1) ∷
-    ("\\t(x,1e9,\\i1)", Written 2) ∷
-    ("\\t(1,1e9,\\fs1e10)", Refused (NumeralTooLong 5)) ∷
-    ("\\i1\\fade(0,0,0,0,0,0,1000000001)", Refused (FadeTooFar 3)) ∷
-    ("\\fade(0,0,0,-1000000000,0,0,1000000000)", Written 1) ∷
+    ("", Ok 0) ∷
+    ("\\t(\\t(\\t(\\t(\\t(\\t(\\t(\\t(\\t(\\b1", Ok 10) ∷
+    ("\\t(\\t(\\t(\\t(\\t(\\t(\\t(\\t(\\t(\\t(\\t(\\t(\\t(\\t(\\t(\\t(\\b1", Ok 17) ∷
+    ("\\t(\\t(\\t(\\t(\\t(\\t(\\t(\\t(\\t(\\t(\\t(\\t(\\t(\\t(\\t(\\t(\\t(\\b1", Ok 16) ∷
+    ("\\fs999999999", Ok 1) ∷
+    ("\\fs1000000000", Err (NumeralTooLong 3)) ∷
+    ("\\fs1e2", Ok 1) ∷
+    ("\\fs1e9", Err (NumeralTooLong 3)) ∷
+    ("\\pos(x,1e9)", Err (NumeralTooLong 7)) ∷
+    ("\\pos(1,2, -1e9)", Err (NumeralTooLong 10)) ∷
+    ("\\fad(1e9,5)\\foo1e9\\clip(1e9)", Ok 1) ∷
+    ("\\t(x,1e9,\\i1)", Ok 2) ∷
+    ("\\t(1,1e9,\\fs1e10)", Err (NumeralTooLong 5)) ∷
+    ("\\i1\\fade(0,0,0,0,0,0,1000000001)", Err (FadeTooFar 3)) ∷
+    ("\\fade(0,0,0,-1000000000,0,0,1000000000)", Ok 1) ∷
     [])
-unfolding round to_bits to_signed span back skip skip_back blank_at blank_before closing max_zero round_away round_byte value whole_number i32_of hex_at split_at exponent_at float_of f32_of trimmed ampersands zero_xat digits alpha_at colour_at split append records encode count names lookup lowered key_at part f32s i32s all_floats floats_in all_ints ints_in unless_long pair_of move_of fad_of fade_of ranged_of weight_of flag_of clip_of reset_of shaped is_fn is_named_reset plain_at_lem param_at peel tag_at walk t_at parse text_ground read_ground answer
+unfolding round to_bits to_signed span back skip skip_back blank_at blank_before closing max_zero round_away round_byte value whole_number i32_of hex_at split_at exponent_at float_of f32_of trimmed ampersands zero_xat digits alpha_at colour_at split append records encode count names lookup lowered key_at part f32s i32s all_floats floats_in all_ints ints_in unless_long pair_of move_of fad_of fade_of ranged_of weight_of flag_of clip_of reset_of shaped is_fn is_named_reset plain_at param_at peel tag_at walk t_at parse text_ground read_ground answer
 answers = refl
 
 -- 01, Grounds: "Two faults: the lower number", for each two neighbours of 1, 2, 3, 4 and 9; the second is the number of places
@@ -100,13 +99,13 @@ abbrev Answers : List ((List ℕ × ℕ) × Answer) → Type 0
 Answers rows = map (λ (r : (List ℕ × ℕ) × Answer). answer_in r.0) rows ≡ map (λ (r : (List ℕ × ℕ) × Answer). r.1) rows
 
 pub two_faults : Answers (
-    ((replicate 12289 128, 0), Refused TextTooLong) ∷
-    ((bytes "\\fs1e9" ++ (128 ∷ []), 0), Refused (NotAscii 6)) ∷
-    ((bytes far_fade ++ bytes "\\fs1e9", 1024), Refused (NumeralTooLong 32)) ∷
-    ((bytes far_fade ++ bytes "\\fs1e9", 0), Refused (NumeralTooLong 32)) ∷
-    ((bytes "\\fs1e9\\i1", 0), Refused (NumeralTooLong 3)) ∷
-    ((bytes "\\i1" ++ bytes far_fade, 0), Refused (FadeTooFar 3)) ∷
-    ((bytes "\\i1\\b1", 1), Refused (NoRoom 2)) ∷
+    ((replicate 12289 128, 0), Err TextTooLong) ∷
+    ((bytes "\\fs1e9" ++ (128 ∷ []), 0), Err (NotAscii 6)) ∷
+    ((bytes far_fade ++ bytes "\\fs1e9", 1024), Err (NumeralTooLong 32)) ∷
+    ((bytes far_fade ++ bytes "\\fs1e9", 0), Err (NumeralTooLong 32)) ∷
+    ((bytes "\\fs1e9\\i1", 0), Err (NumeralTooLong 3)) ∷
+    ((bytes "\\i1" ++ bytes far_fade, 0), Err (FadeTooFar 3)) ∷
+    ((bytes "\\i1\\b1", 1), Err (NoRoom 2)) ∷
     [])
-unfolding round to_bits to_signed span back skip skip_back blank_at blank_before closing max_zero round_away round_byte value whole_number i32_of hex_at split_at exponent_at float_of f32_of trimmed ampersands zero_xat digits alpha_at colour_at split append records encode count names lookup lowered key_at part f32s i32s all_floats floats_in all_ints ints_in unless_long pair_of move_of fad_of fade_of ranged_of weight_of flag_of clip_of reset_of shaped is_fn is_named_reset plain_at_lem param_at peel tag_at walk t_at parse text_ground read_ground answer
+unfolding round to_bits to_signed span back skip skip_back blank_at blank_before closing max_zero round_away round_byte value whole_number i32_of hex_at split_at exponent_at float_of f32_of trimmed ampersands zero_xat digits alpha_at colour_at split append records encode count names lookup lowered key_at part f32s i32s all_floats floats_in all_ints ints_in unless_long pair_of move_of fad_of fade_of ranged_of weight_of flag_of clip_of reset_of shaped is_fn is_named_reset plain_at param_at peel tag_at walk t_at parse text_ground read_ground answer
 two_faults = refl

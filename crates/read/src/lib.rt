@@ -1,15 +1,22 @@
 // Override blocks into tables: the two reading calls.
 #![tactic(auto)]
 
-ghost use Rattle.std.specs.Prelude.{◌≡◌, ◌+◌, ◌-◌, ◌*◌, ◌^◌, ◌≤◌, ◌<◌, length};
+ghost use Rattle.std.specs.Prelude.{◌≡◌, ◌+◌, ◌-◌, ◌*◌, ◌^◌, ◌≤◌, ◌<◌, length, Ok};
 ghost use Rattle.lists.specs.Lists.{first_of};
 ghost use Rattle.refusal.specs.Refusal.{most_bytes, text_ground};
-ghost use Rattle.refusal.specs.declared.Checked.TheVariants.{Good};
 ghost use Rattle.tag.specs.Table.{places_of, laid};
 ghost use Rattle.read.specs.Block.{param_at, name_end, head_at, peel_to, tag_at, t_at, parse};
 ghost use Rattle.read.specs.Reading.{read_ground, whole_text, less_braces, Answered};
 ghost use Rattle.read.specs.Moved.{AsAlone};
 ghost use Rattle.read.specs.Inner.{HeadIn, headed, t_words, Peels, no_place, InWord, found_of, seen_of, kept_records, kept_got, joined_out, around_out, Told, BraceEnd};
+
+use numeral::Numeral;
+use plain::Kept;
+use refusal::Refusal;
+use tag::Record;
+
+// The word of the f32 1.
+const ONE: u32 = 0x3F800000;
 
 // A tag: where its name begins and ends, its parameter from p to q, and the place behind both.
 #[derive(Clone, Copy, Drop)]
@@ -25,9 +32,21 @@ pub struct Head {
 #[derive(Clone, Copy, Drop)]
 pub struct Heads {
     pub count: usize,
-    pub w0: u32,
-    pub w1: u32,
-    pub w2: u32,
+    pub words: [u32; 3],
+}
+
+impl Heads {
+    // One number more.
+    #[tactic(auto, unfolding(crate::specs::Inner::headed))]
+    fn push(&mut self, w: u32)
+        requires { self.old.count < 2 ^ 32 }
+        ensures { self.new ≡ headed self.old w }
+    {
+        if self.count < 3 {
+            self.words[self.count] = w;
+        }
+        self.count += 1;
+    }
 }
 
 // The numbers of a \t, where its tags begin, and a numeral that is too long.
@@ -35,18 +54,79 @@ pub struct Heads {
 pub struct Peeled {
     pub heads: Heads,
     pub rest: usize,
-    pub long: lists::Found,
+    pub long: Option<usize>,
 }
 
-// The word that stands for no place.
-const NO_PLACE: u32 = 4294967295;
+// A place of the text, or none, in one word: `Out` is on the stack at each level of \t, and an Option<usize> has two longer ones.
+#[derive(Clone, Copy, Drop)]
+pub struct Found(u32);
 
-// What a reader gives: how many records, the place of the first numeral that is too long, that of the first \fade whose times lie too far off; `NO_PLACE` where there is none.
+impl Found {
+    // No place: that of no byte, as a text has at most 12,288.
+    const NOWHERE: Found = Found(u32::MAX);
+
+    fn new(place: Option<usize>) -> Found
+        requires { InWord place }
+        ensures { found_of result ≡ place }
+    {
+        Found(place.unwrap_or(u32::MAX as usize) as u32)
+    }
+
+    fn get(self) -> Option<usize>
+        ensures { result ≡ found_of self }
+    {
+        if self.0 == u32::MAX {
+            return None;
+        }
+        Some(self.0 as usize)
+    }
+
+    // The first of two that is a place.
+    fn or(self, other: Found) -> Found
+        ensures { found_of result ≡ first_of (found_of self) (found_of other) }
+    {
+        if self.0 == u32::MAX { other } else { self }
+    }
+}
+
+// What a reader gives: how many records, the place of the first numeral that is too long, that of the first \fade whose times lie too far off.
 #[derive(Clone, Copy, Drop)]
 pub struct Out {
     pub n: u32,
-    pub long: u32,
-    pub far: u32,
+    pub long: Found,
+    pub far: Found,
+}
+
+impl Out {
+    const NONE: Out = Out {
+        n: 0,
+        long: Found::NOWHERE,
+        far: Found::NOWHERE,
+    };
+
+    // What this reader and the one behind it give.
+    fn then(self, next: Out) -> Out
+        requires { (self.n < 65536) × (next.n < 65536) }
+        ensures { seen_of result ≡ joined_out (seen_of self) (seen_of next) }
+    {
+        Out {
+            n: self.n + next.n,
+            long: self.long.or(next.long),
+            far: self.far.or(next.far),
+        }
+    }
+
+    // What a \t gives around this, which is inside it: its own record, and a numeral of its own that is too long.
+    fn within(self, long: Found) -> Out
+        requires { self.n < 65536 }
+        ensures { seen_of result ≡ around_out (found_of long) (seen_of self) }
+    {
+        Out {
+            n: self.n + 1,
+            long: long.or(self.long),
+            far: self.far,
+        }
+    }
 }
 
 // The part of the text that is read.
@@ -57,38 +137,29 @@ pub struct Span {
 }
 
 // The parameter that starts at i, as `read_param` has it.
+#[tactic(auto, unfolding(crate::specs::Block::param_at))]
 fn param_at(text: &[u8], name: usize, i: usize, e: usize) -> Head
     requires { (i ≤ e) × (e ≤ length text.now) }
     ensures { HeadIn name i e (param_at text.now name i e) result }
 {
-    if i < e {
-        if text[i] == 40 {
-            let c = scan::closing(text, i + 1, e);
-            if c < e {
-                return Head {
-                    name,
-                    end: i,
-                    p: i + 1,
-                    q: c,
-                    next: c + 1,
-                };
-            }
-            return Head {
-                name,
-                end: i,
-                p: i + 1,
-                q: c,
-                next: c,
-            };
-        }
+    let end = i;
+    if i < e && text[i] == b'(' {
+        let q = scan::closing(text, i + 1, e);
+        return Head {
+            name,
+            end,
+            p: i + 1,
+            q,
+            next: e.min(q + 1),
+        };
     }
-    let d = scan::span(text, scan::Class::Not(92), i, e);
+    let q = scan::span(text, scan::Not(b'\\'), i, e);
     Head {
         name,
-        end: i,
+        end,
         p: i,
-        q: d,
-        next: d,
+        q,
+        next: q,
     }
 }
 
@@ -97,46 +168,9 @@ fn head_at(text: &[u8], i: usize, e: usize) -> Head
     requires { (i < e) × (e ≤ length text.now) }
     ensures { HeadIn (i + 1) (name_end text.now (i + 1) e) e (head_at text.now i e) result × (i < result.end) }
 {
-    let digit = scan::past(text, scan::Class::Digit(10), i + 1, e);
-    let end = scan::span(text, scan::Class::Letter, digit, e);
+    let digit = scan::past(text, scan::Digit(10), i + 1, e);
+    let end = scan::span(text, scan::Letter, digit, e);
     param_at(text, i + 1, end, e)
-}
-
-// One number more.
-fn with_head(h: Heads, w: u32) -> Heads
-    requires { h.count < 2 ^ 32 }
-    ensures { result ≡ headed h w }
-{
-    if h.count == 0 {
-        return Heads {
-            count: 1,
-            w0: w,
-            w1: 0,
-            w2: 0,
-        };
-    }
-    if h.count == 1 {
-        return Heads {
-            count: 2,
-            w0: h.w0,
-            w1: w,
-            w2: 0,
-        };
-    }
-    if h.count == 2 {
-        return Heads {
-            count: 3,
-            w0: h.w0,
-            w1: h.w1,
-            w2: w,
-        };
-    }
-    Heads {
-        count: h.count + 1,
-        w0: h.w0,
-        w1: h.w1,
-        w2: h.w2,
-    }
 }
 
 // The numbers in front of a \t's tags, as `peel_leading_numbers` has them.
@@ -146,46 +180,26 @@ fn peel(text: &[u8], p: usize, q: usize) -> Peeled
 {
     let mut heads = Heads {
         count: 0,
-        w0: 0,
-        w1: 0,
-        w2: 0,
+        words: [0; 3],
     };
     let mut i = scan::trim_start(text, p, q);
     loop {
-        let k = scan::span(text, scan::Class::Neither(44, 92), i, q);
-        let n = numeral::f32_at(text, i, k);
-        match n {
-            numeral::Numeral::No => {
+        let k = scan::span(text, scan::Neither(b',', b'\\'), i, q);
+        match numeral::f32_at(text, i, k) {
+            Numeral::Word(w) => heads.push(w),
+            n => {
                 return Peeled {
                     heads,
                     rest: i,
-                    long: lists::Found::Nowhere,
+                    long: n.too_long(),
                 };
             }
-            numeral::Numeral::TooLong(at) => {
-                return Peeled {
-                    heads,
-                    rest: i,
-                    long: lists::Found::At(at),
-                };
-            }
-            numeral::Numeral::Word(w) => {
-                let more = with_head(heads, w);
-                heads = more;
-            }
         }
-        if k >= q {
-            return Peeled {
-                heads,
-                rest: q,
-                long: lists::Found::Nowhere,
-            };
-        }
-        if text[k] == 92 {
+        if k >= q || text[k] == b'\\' {
             return Peeled {
                 heads,
                 rest: k,
-                long: lists::Found::Nowhere,
+                long: None,
             };
         }
         i = scan::trim_start(text, k + 1, q);
@@ -193,136 +207,43 @@ fn peel(text: &[u8], p: usize, q: usize) -> Peeled
 }
 
 // The record of a \t with n records inside.
-fn t_record(h: Heads, n: u32) -> tag::Record
+#[tactic(auto, unfolding(crate::specs::Inner::t_words))]
+fn t_record(h: Heads, n: u32) -> Record
     ensures { result ≡ t_words h n }
 {
-    if h.count == 0 {
-        return tag::Record {
-            kind: 49,
-            w1: 0,
-            w2: 0,
-            w3: 0,
-            w4: 0x3F800000,
-            w5: n,
-            w6: 0,
-            w7: 0,
-        };
-    }
-    if h.count == 1 {
-        return tag::Record {
-            kind: 49,
-            w1: 0,
-            w2: 0,
-            w3: 0,
-            w4: h.w0,
-            w5: n,
-            w6: 0,
-            w7: 0,
-        };
-    }
-    let a = plain::time_of(h.w0);
-    let b = plain::time_of(h.w1);
-    if h.count == 2 {
-        return tag::Record {
-            kind: 49,
-            w1: 1,
-            w2: a,
-            w3: b,
-            w4: 0x3F800000,
-            w5: n,
-            w6: 0,
-            w7: 0,
-        };
-    }
-    tag::Record {
-        kind: 49,
-        w1: 1,
-        w2: a,
-        w3: b,
-        w4: h.w2,
-        w5: n,
-        w6: 0,
-        w7: 0,
+    let [a, b, c] = h.words;
+    match h.count {
+        0 => Record::of(49, [0, 0, 0, ONE, n]),
+        1 => Record::of(49, [0, 0, 0, a, n]),
+        2 => Record::of(49, [1, plain::time_of(a), plain::time_of(b), ONE, n]),
+        _ => Record::of(49, [1, plain::time_of(a), plain::time_of(b), c, n]),
     }
 }
 
 // What a plain tag gives, its record into the front of the table.
-fn keep(i: usize, k: plain::Kept, table: &mut [u32]) -> Out
+#[tactic(auto, unfolding(rows::specs::Rows::laid_rows))]
+fn keep(i: usize, k: Kept, table: &mut [u32]) -> Out
     requires { (i < no_place) × InWord (kept_got i k).long }
     ensures { (seen_of result ≡ kept_got i k) × (table.new ≡ laid table.old (kept_records k)) × (result.n ≤ 1) }
 {
     match k {
-        plain::Kept::No => Out {
-            n: 0,
-            long: NO_PLACE,
-            far: NO_PLACE,
+        Kept::No => Out::NONE,
+        Kept::Long(p) => Out {
+            long: Found::new(Some(p)),
+            ..Out::NONE
         },
-        plain::Kept::Long(p) => Out {
-            n: 0,
-            long: p as u32,
-            far: NO_PLACE,
-        },
-        plain::Kept::Tag(r) => {
+        Kept::Tag(r) => {
+            tag::put(table, r);
+            Out { n: 1, ..Out::NONE }
+        }
+        Kept::Far(r) => {
             tag::put(table, r);
             Out {
                 n: 1,
-                long: NO_PLACE,
-                far: NO_PLACE,
+                far: Found::new(Some(i)),
+                ..Out::NONE
             }
         }
-        plain::Kept::Far(r) => {
-            tag::put(table, r);
-            Out {
-                n: 1,
-                long: NO_PLACE,
-                far: i as u32,
-            }
-        }
-    }
-}
-
-// A place as a word.
-fn place_word(f: lists::Found) -> u32
-    requires { InWord f }
-    ensures { found_of result ≡ f }
-{
-    match f {
-        lists::Found::Nowhere => NO_PLACE,
-        lists::Found::At(p) => p as u32,
-    }
-}
-
-// The first of two places that there is.
-fn first_place(a: u32, b: u32) -> u32
-    ensures { found_of result ≡ first_of (found_of a) (found_of b) }
-{
-    if a == NO_PLACE {
-        return b;
-    }
-    a
-}
-
-// What two readers give, the one behind the other.
-fn joined(a: Out, b: Out) -> Out
-    requires { (a.n < 65536) × (b.n < 65536) }
-    ensures { seen_of result ≡ joined_out (seen_of a) (seen_of b) }
-{
-    Out {
-        n: a.n + b.n,
-        long: first_place(a.long, b.long),
-        far: first_place(a.far, b.far),
-    }
-}
-
-// What a \t gives: its own record, and what is inside.
-fn around(l: u32, o: Out) -> Out
-    requires { o.n < 65536 }
-    ensures { seen_of result ≡ around_out (found_of l) (seen_of o) }
-{
-    Out {
-        n: o.n + 1,
-        long: first_place(l, o.long),
-        far: o.far,
     }
 }
 
@@ -358,19 +279,13 @@ fn parse_t(text: &[u8], p: usize, q: usize, depth: usize, table: &mut [u32]) -> 
     ensures { Told table.old (t_at depth text.now p q) (q - p + 1) result table.new }
 {
     if depth == 0 {
-        return Out {
-            n: 0,
-            long: NO_PLACE,
-            far: NO_PLACE,
-        };
+        return Out::NONE;
     }
     let l = peel(text, p, q);
-    let start = scan::least(8, table.len());
+    let start = table.len().min(8);
     let o = parse_overrides_depth(text, l.rest, q, depth - 1, &mut table[start..]);
-    let heads = l.heads;
-    tag::put(table, t_record(heads, o.n));
-    let long = l.long;
-    around(place_word(long), o)
+    tag::put(table, t_record(l.heads, o.n));
+    o.within(Found::new(l.long))
 }
 
 // The tags of a block, into the front of the table.
@@ -386,81 +301,68 @@ fn parse_overrides_depth(
     ensures { Told table.old (parse depth text.now from to) (to - from) result table.new }
 {
     let mut i = from;
-    let mut out = Out {
-        n: 0,
-        long: NO_PLACE,
-        far: NO_PLACE,
-    };
+    let mut out = Out::NONE;
     while i < to {
-        if text[i] == 92 {
-            let h = head_at(text, i, to);
-            if h.end == i + 1 {
-                i += 1;
-            } else {
-                let start = scan::least(8 * (out.n as usize), table.len());
-                let o = parse_one(text, i, h, depth, &mut table[start..]);
-                let all = joined(out, o);
-                out = all;
-                i = h.next;
-            }
-        } else {
+        if text[i] != b'\\' {
             i += 1;
+            continue;
         }
+        let h = head_at(text, i, to);
+        if h.end == i + 1 {
+            i += 1;
+            continue;
+        }
+        let start = table.len().min(8 * out.n as usize);
+        out = out.then(parse_one(text, i, h, depth, &mut table[start..]));
+        i = h.next;
     }
     out
 }
 
 // Grounds 3, 4 and 9 for what was seen.
-fn check_read(o: Out, places: usize) -> refusal::Answer
+#[tactic(auto, unfolding(crate::specs::Reading::read_ground))]
+fn check_read(o: Out, places: usize) -> Result<usize, Refusal>
     ensures { result ≡ read_ground (found_of o.long) (found_of o.far) o.n places }
 {
-    if o.long != NO_PLACE {
-        return refusal::Answer::Refused(refusal::Refusal::NumeralTooLong(o.long as usize));
+    if let Some(p) = o.long.get() {
+        return Err(Refusal::NumeralTooLong(p));
     }
-    if o.far != NO_PLACE {
-        return refusal::Answer::Refused(refusal::Refusal::FadeTooFar(o.far as usize));
+    if let Some(p) = o.far.get() {
+        return Err(Refusal::FadeTooFar(p));
     }
-    if o.n as usize <= scan::least(places, 1024) {
-        refusal::Answer::Written(o.n as usize)
-    } else {
-        refusal::Answer::Refused(refusal::Refusal::NoRoom(o.n as usize))
+    let n = o.n as usize;
+    if n > places.min(1024) {
+        return Err(Refusal::NoRoom(n));
     }
+    Ok(n)
 }
 
 // Reads a part of a text with no ground 1 or 2: in one run where a first look rules out grounds 3, 4 and 9; else first into no table.
-fn read_good(text: &[u8], from: usize, to: usize, table: &mut [u32]) -> refusal::Answer
-    requires { (from ≤ to) × (to ≤ length text.now) × (text_ground text.now ≡ Good) }
+fn read_good(text: &[u8], from: usize, to: usize, table: &mut [u32]) -> Result<usize, Refusal>
+    requires { (from ≤ to) × (to ≤ length text.now) × (text_ground text.now ≡ Ok tt) }
     ensures { Answered text.now (record { from = from; to = to }) table.old result table.new }
 {
-    if survey::straight(text, from, to, scan::least(table.len() / 8, 1024)) {
+    if survey::straight(text, from, to, (table.len() / 8).min(1024)) {
         let o = parse_overrides_depth(text, from, to, 16, table);
-        return refusal::Answer::Written(o.n as usize);
+        return Ok(o.n as usize);
     }
     let seen = parse_overrides_depth(text, from, to, 16, &mut table[..0]);
-    let answer = check_read(seen, table.len() / 8);
-    match answer {
-        refusal::Answer::Refused(r) => refusal::Answer::Refused(r),
-        refusal::Answer::Written(n) => {
-            let _ = parse_overrides_depth(text, from, to, 16, table);
-            refusal::Answer::Written(n)
-        }
-    }
+    let n = check_read(seen, table.len() / 8)?;
+    let _ = parse_overrides_depth(text, from, to, 16, table);
+    Ok(n)
 }
 
 // Reads a part of the text.
-fn read_span(text: &[u8], from: usize, to: usize, table: &mut [u32]) -> refusal::Answer
+fn read_span(text: &[u8], from: usize, to: usize, table: &mut [u32]) -> Result<usize, Refusal>
     requires { (from ≤ to) × (to ≤ length text.now) }
     ensures { Answered text.now (record { from = from; to = to }) table.old result table.new }
 {
-    let checked = refusal::check_text(text);
-    match checked {
-        refusal::Checked::Bad(r) => refusal::Answer::Refused(r),
-        refusal::Checked::Good => read_good(text, from, to, table),
-    }
+    refusal::check_text(text)?;
+    read_good(text, from, to, table)
 }
 
 // 01, Reading: the block is the whole text; braces are ordinary bytes.
-pub fn parse_overrides(text: &[u8], table: &mut [u32]) -> refusal::Answer
+pub fn parse_overrides(text: &[u8], table: &mut [u32]) -> Result<usize, Refusal>
     ensures { Answered text.now (whole_text text.now) table.old result table.new }
 {
     read_span(text, 0, text.len(), table)
@@ -471,22 +373,20 @@ fn brace_end(text: &[u8], p: usize, b: usize) -> usize
     requires { (p ≤ b) × (b ≤ length text.now) }
     ensures { BraceEnd text.now p b result }
 {
-    if p < b {
-        if text[b - 1] == 125 {
-            return b - 1;
-        }
+    if p < b && text[b - 1] == b'}' {
+        return b - 1;
     }
     b
 }
 
 // 01, Braces: trims, then drops one { and one }.
-pub fn parse_raw_block(text: &[u8], table: &mut [u32]) -> refusal::Answer
+pub fn parse_raw_block(text: &[u8], table: &mut [u32]) -> Result<usize, Refusal>
     ensures answered { Answered text.now (less_braces text.now) table.old result table.new }
     ensures as_alone { AsAlone text.now (less_braces text.now) (places_of table.old) result }
 {
     let a = scan::trim_start(text, 0, text.len());
     let b = scan::trim_end(text, a, text.len());
-    let p = scan::past(text, scan::Class::Is(123), a, b);
+    let p = scan::past(text, scan::Is(b'{'), a, b);
     let q = brace_end(text, p, b);
     read_span(text, p, q, table)
 }

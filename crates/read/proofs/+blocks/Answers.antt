@@ -40,28 +40,28 @@ parse_overrides_depth-loop-i-preserved-then-h-i t c =
     let l = c.loop-i in
     let a = c.args in
     let h = c.head_at-h in
-    let k = parse_bare a.depth a.text.now l.i a.to h.result c.loop-i-test.true c.if-text-i-eq92.true h.ensures.0.is c.if-h-i.true in
+    let k = parse_bare a.depth a.text.now l.i a.to h.result c.loop-i-test.true c.if-text-i-ne92.false h.ensures.0.is c.if-h-i.true in
     (search rules, search rules, search rules, rw k at l.invariant.3)
 
-pub parse_overrides_depth-loop-i-smaller-else-h-i : goal.parse_overrides_depth-loop-i-smaller-else-h-i
-parse_overrides_depth-loop-i-smaller-else-h-i t c =
+pub parse_overrides_depth-loop-i-smaller : goal.parse_overrides_depth-loop-i-smaller
+parse_overrides_depth-loop-i-smaller t c =
     let h = c.head_at-h.ensures in
     less_left _ _ _ (next_past _ _ _ _ _ h.1 (rw h.0.end_is h.0.low) h.0.order h.0.next_low) h.0.high
-
-pub parse_overrides_depth-loop-i-preserved-else-h-i : goal.parse_overrides_depth-loop-i-preserved-else-h-i
-parse_overrides_depth-loop-i-preserved-else-h-i t c =
-    let l = c.loop-i in
-    let a = c.args in
-    let h = c.head_at-h in
-    let o = c.parse_one-o in
-    let k = parse_tag a.depth a.text.now l.i a.to h.result c.loop-i-test.true c.if-text-i-eq92.true h.ensures.0.is c.if-h-i.false in
-    (search rules, search rules, rw (ap (λ (x : Seen). x.n) c.joined-all.ensures) (count_step _ _ _ _ _ _ _ _ l.invariant.0 l.invariant.2 o.ensures.few h.ensures.1 (rw h.ensures.0.end_is h.ensures.0.low) h.ensures.0.order h.ensures.0.next_low), turning_turn (rw k at l.invariant.3) c.least-start.ensures o.ensures c.joined-all.ensures)
 
 pub parse_overrides_depth-loop-i-preserved : goal.parse_overrides_depth-loop-i-preserved
 parse_overrides_depth-loop-i-preserved t c =
     let l = c.loop-i in
     let a = c.args in
-    let k = parse-skip a.depth a.text.now l.i a.to c.loop-i-test.true c.if-text-i-eq92.false in
+    let h = c.head_at-h in
+    let o = c.parse_one in
+    let k = parse_tag a.depth a.text.now l.i a.to h.result c.loop-i-test.true c.if-text-i-ne92.false h.ensures.0.is c.if-h-i.false in
+    (search rules, search rules, rw (ap (λ (x : Seen). x.n) c.then-out.ensures) (count_step _ _ _ _ _ _ _ _ l.invariant.0 l.invariant.2 o.ensures.few h.ensures.1 (rw h.ensures.0.end_is h.ensures.0.low) h.ensures.0.order h.ensures.0.next_low), turning_turn (rw k at l.invariant.3) (omega (arith, c.min-start.ensures)) o.ensures c.then-out.ensures)
+
+pub parse_overrides_depth-loop-i-preserved-then-text-i-ne92 : goal.parse_overrides_depth-loop-i-preserved-then-text-i-ne92
+parse_overrides_depth-loop-i-preserved-then-text-i-ne92 t c =
+    let l = c.loop-i in
+    let a = c.args in
+    let k = parse-skip a.depth a.text.now l.i a.to c.loop-i-test.true c.if-text-i-ne92.true in
     (search rules, search rules, search rules, rw k at l.invariant.3)
 
 pub parse_overrides_depth-returns : goal.parse_overrides_depth-returns
@@ -76,13 +76,13 @@ pub parse_t-returns-then-depth-eq0 : goal.parse_t-returns-then-depth-eq0
 unfolding encode laid_rows count
 parse_t-returns-then-depth-eq0 t c = rw (t-none _ _ _ _ c.if-depth-eq0.true) (record { out = refl; table = refl; few = search rules })
 
-pub parse_t-place_word-requires : goal.parse_t-place_word-requires
-parse_t-place_word-requires t c =
+pub parse_t-new-requires : goal.parse_t-new-requires
+parse_t-new-requires t c =
     peel_word _ _ _ _ (search rules) (search rules) c.peel-l.ensures
 
-pub parse_t-around-requires : goal.parse_t-around-requires
-parse_t-around-requires t c = omega (arith, c.parse_overrides_depth-o.ensures.few, c.requires)
+pub parse_t-within-requires : goal.parse_t-within-requires
+parse_t-within-requires t c = omega (arith, c.parse_overrides_depth-o.ensures.few, c.requires)
 
 pub parse_t-returns : goal.parse_t-returns
 parse_t-returns t c =
-    t-told _ _ _ _ _ _ _ _ _ _ _ _ c.if-depth-eq0.false c.peel-l.ensures c.parse_overrides_depth-o.ensures c.least-start.ensures c.t_record.ensures c.put.ensures (rw c.place_word.ensures at c.around.ensures)
+    t-told _ _ _ _ _ _ _ _ _ _ _ _ c.if-depth-eq0.false c.peel-l.ensures c.parse_overrides_depth-o.ensures (omega (arith, c.min-start.ensures)) c.t_record.ensures c.put.ensures (rw c.new.ensures at c.within.ensures)

@@ -1,41 +1,27 @@
-use Rattle.read.proofs.Peeling.{Peeling, headed-count, from, peeling_start, peeling_no, peeling_long, peeling_word, peeling_end}
-use Rattle.read.specs.Inner.{no_heads}
-use Rattle.read.specs.Block.{peel_to}
-use borrow.Author.Tests.{eq-eqb, ne_eqb, lt-ltb, le-ltb}
+use Rattle.read.proofs.Peeling.{behind_end, peeling_stop, peeling_word, peeling_end}
+use borrow.Author.Tests.{eq-eqb, ne_eqb, lt-ltb}
 use borrow.Author.Rules.{rules}
 use native.Mathlib.Omega.{arith}
-use Prim.Native.Nat.{ℕ}
-use mathlib.Core.Path.{sym, ap, subst, ◌∙◌}
+use mathlib.Core.Path.{◌≡◌, sym, ap, ◌∙◌}
+use Rattle.numeral.specs.Numeral.{f32_at, word_of_f32, too_long}
 use Rattle.read.specs.declared.Heads.{Heads}
 use Rattle.read.proofs.peel.Goals as goal
+use Rattle.read.proofs.peel.Goals.{then-k-q-via-then-k-q, then-k-q-via-else-k-q+then-text-k-eq92}
 
-pub loop-at-init : goal.loop-at-init
-loop-at-init c = (search rules, search rules, search rules, subst (λ (j : ℕ). Peeling (peel_to c.args.text.now c.args.p c.args.q) (from c.args.text.now c.args.q j) no_heads) (sym c.trim_start-i.ensures.is) (peeling_start _))
-
-pub returns-in-No : goal.returns-in-No
-returns-in-No c =
-    let l = c.loop-at in
-    peeling_end (peeling_no c.args.text.now c.args.q l.i c.span-k.result c.span-k.ensures.is l.invariant.3 (sym c.f32_at-n.ensures ∙ c.in-No.is)) (search rules) (search rules)
-
-pub returns-in-TooLong : goal.returns-in-TooLong
-returns-in-TooLong c =
-    let l = c.loop-at in
-    peeling_end (peeling_long c.args.text.now c.args.q l.i c.span-k.result c.span-k.ensures.is l.invariant.3 _ (sym c.f32_at-n.ensures ∙ c.in-TooLong.is)) (search rules) (search rules)
+pub returns-in_default : goal.returns-in_default
+returns-in_default c =
+    let l = c.loop-w in
+    let z : c.too_long.result ≡ too_long (word_of_f32 (f32_at c.args.text.now l.i c.span-k.result)) = rw (← c.f32_at.ensures) c.too_long.ensures in
+    rw z (peeling_end (peeling_stop c.args.text.now c.args.q l.i c.span-k.result c.span-k.ensures.is l.invariant.3 (λ w e. c.in_default.not-Word w (c.f32_at.ensures ∙ e))) (search rules) (search rules))
 
 pub returns-then-k-q : goal.returns-then-k-q
 returns-then-k-q c =
-    let l = c.loop-at in
-    let w = peeling_word c.args.text.now c.args.q l.i c.span-k.result c.span-k.ensures.is l.invariant.3 _ (sym c.f32_at-n.ensures ∙ c.in-Word.is) in
-    peeling_end (rw (← c.with_head-more.ensures, le-ltb _ _ c.if-k-q.true) at w) (search rules) (search rules)
+    let l = c.loop-w in
+    let w = peeling_word c.args.text.now c.args.q l.i c.span-k.result c.span-k.ensures.is l.invariant.3 _ (sym c.f32_at.ensures ∙ c.in-Word.is) in
+    elim c.then-k-q.branch [ then-k-q-via-then-k-q v ↦ peeling_end (rw (← c.push.ensures, behind_end _ _ _ v.if-k-q.true c.span-k.ensures.high) at w) (search rules) (search rules) | then-k-q-via-else-k-q+then-text-k-eq92 v ↦ peeling_end (rw (← c.push.ensures, lt-ltb _ _ v.if-k-q.false, eq-eqb _ _ v.if-text-k-eq92.true) at w) (search rules) (search rules) ]
 
-pub returns-then-text-k-eq92 : goal.returns-then-text-k-eq92
-returns-then-text-k-eq92 c =
-    let l = c.loop-at in
-    let w = peeling_word c.args.text.now c.args.q l.i c.span-k.result c.span-k.ensures.is l.invariant.3 _ (sym c.f32_at-n.ensures ∙ c.in-Word.is) in
-    peeling_end (rw (← c.with_head-more.ensures, lt-ltb _ _ c.if-k-q.false, eq-eqb _ _ c.if-text-k-eq92.true) at w) (search rules) (search rules)
-
-pub loop-at-preserved : goal.loop-at-preserved
-loop-at-preserved c =
-    let l = c.loop-at in
-    let w = peeling_word c.args.text.now c.args.q l.i c.span-k.result c.span-k.ensures.is l.invariant.3 _ (sym c.f32_at-n.ensures ∙ c.in-Word.is) in
-    (search rules, search rules, omega (arith, ap (λ (h : Heads). h.count) c.with_head-more.ensures, headed-count l.heads c.in-Word.w, c.trim_start-i-in-loop-at.ensures.low, c.span-k.ensures.low), rw (← c.with_head-more.ensures, lt-ltb _ _ c.if-k-q.false, ne_eqb _ _ c.if-text-k-eq92.false, ← c.trim_start-i-in-loop-at.ensures.is) at w)
+pub loop-w-preserved : goal.loop-w-preserved
+loop-w-preserved c =
+    let l = c.loop-w in
+    let w = peeling_word c.args.text.now c.args.q l.i c.span-k.result c.span-k.ensures.is l.invariant.3 _ (sym c.f32_at.ensures ∙ c.in-Word.is) in
+    (search rules, search rules, omega (arith, ap (λ (h : Heads). h.count) c.push.ensures), rw (← c.push.ensures, lt-ltb _ _ c.if-k-q.false, ne_eqb _ _ c.if-text-k-eq92.false, ← c.trim_start-i-in-loop-w.ensures.is) at w)

@@ -3,8 +3,8 @@ use Rattle.read.specs.Block.{peel_to}
 use Prim.Native.Nat.{◌-◌, ◌≤◌}
 use Rattle.read.proofs.peel.Given as goal
 
-abbrev pub invariant-loop-at : goal.invariant-loop-at
-invariant-loop-at l = (l.p ≤ l.i) × (l.i ≤ l.q) × (l.heads.count ≤ l.i - l.p) × Peeling (peel_to l.text l.p l.q) (from l.text l.q l.i) l.heads
+abbrev pub invariant-loop-w : goal.invariant-loop-w
+invariant-loop-w l = (l.p ≤ l.i) × (l.i ≤ l.q) × (l.heads.count ≤ l.i - l.p) × Peeling (peel_to l.text l.p l.q) (from l.text l.q l.i) l.heads
 
-abbrev pub decreases-loop-at : goal.decreases-loop-at
-decreases-loop-at l = l.q - l.i
+abbrev pub decreases-loop-w : goal.decreases-loop-w
+decreases-loop-w l = l.q - l.i
