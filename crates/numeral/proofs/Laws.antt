@@ -257,3 +257,11 @@ run_below start a d n h k = rw (add-one n, pow-suc, ← mul_assoc (start + 1) (1
 
 pub run_nine : (start n : ℕ) → n ≤ 9 → (start + 1) * 10 ^ n ≤ (start + 1) * 1000000000
 run_nine start n h = mul-le-mul_left (start + 1) (pow-le-pow_right (lit< tt) h)
+
+-- ---- for a function each
+
+pub ruleset values = (value_turn, value-end, min-eq_right)
+
+pub ruleset i32s = (i32_minus, i32_far)
+
+pub ruleset f32s = (f32-empty, f32-rest, f32_long, f32_long_fraction)

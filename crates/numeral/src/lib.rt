@@ -51,6 +51,7 @@ pub struct Decimal {
 const MOST: u64 = 1_000_000_000_000_000_000;
 
 // The number that the digits between two places write behind `start`, at most 10^18.
+#[tactic(auto, using(crate::proofs::Laws::values))]
 fn value(text: &[u8], radix: u8, from: usize, to: usize, start: u64) -> u64
     requires { (from ≤ to) × (to ≤ length text.now) × (0 < radix) × (radix ≤ 16) × (start ≤ most) }
     ensures { result ≡ min most (value_of radix text.now (to - from) from start) }
@@ -75,6 +76,7 @@ pub fn whole_number(text: &[u8], radix: u8, from: usize, to: usize) -> u64
 }
 
 // A whole number as Rust reads an i32, blanks around it dropped: its word in two's complement.
+#[tactic(auto, using(crate::proofs::Laws::i32s))]
 pub fn i32_at(text: &[u8], p: usize, q: usize) -> Numeral
     requires { (p ≤ q) × (q ≤ length text.now) }
     ensures { result ≡ word_of_i32 (i32_at text.now p q) }
@@ -126,6 +128,7 @@ fn run_at(text: &[u8], from: usize, to: usize, start: u64) -> (usize, u64)
 }
 
 // The digits of a numeral that starts at a, and the number that they write.
+#[tactic(auto, unfolding(crate::specs::Numeral::split_at))]
 fn decimal_at(text: &[u8], a: usize, b: usize) -> (Decimal, u64)
     requires { (a ≤ b) × (b ≤ length text.now) }
     ensures { let at = result.0 in Split text.now a b at × (at.whole - at.from ≤ 9 → at.end - at.fraction ≤ 9 → result.1 ≡ value_of 10 text.now (at.end - at.fraction) at.fraction (value_of 10 text.now (at.whole - at.from) at.from 0)) }
@@ -232,7 +235,7 @@ fn shifted(text: &[u8], a: usize, b: usize, end: usize, w: usize, f: usize, digi
 }
 
 // The numeral that fills the text between two places.
-#[tactic(auto, using(crate::proofs::Laws::f32_long))]
+#[tactic(auto, using(crate::proofs::Laws::f32s))]
 fn f32_of(text: &[u8], a: usize, b: usize) -> Numeral
     requires { (a ≤ b) × (b ≤ length text.now) }
     ensures { result ≡ word_of_f32 (f32_of text.now a b) }

@@ -1,21 +1,9 @@
 use mathlib.Core.Path.{◌≡◌, sym, subst}
 use Prim.Native.Nat.{◌<◌}
-use native.Mathlib.Omega.{arith}
-use borrow.Author.Rules.{rules}
 use Rattle.numeral.specs.declared.Decimal.{Decimal}
 use Rattle.numeral.specs.Numeral.{most, split_at, digits_of}
 use Rattle.numeral.proofs.Exponent.{valued}
 use Rattle.numeral.proofs.digits_at.Goals as goal
-
-pub value-requires : goal.value-requires
-value-requires c =
-    let whole = c.span-whole.ensures in
-    (whole.low, omega (arith, whole.high), search rules, search rules, search rules)
-
-pub value-requires-2 : goal.value-requires-2
-value-requires-2 c =
-    let end = c.span-end.ensures in
-    (end.low, omega (arith, end.high), search rules, search rules, omega (arith, c.value.ensures))
 
 pub returns : goal.returns
 unfolding split_at

@@ -4,13 +4,12 @@ use Prim.Native.Nat.{ℕ, ◌-◌, ◌*◌, ◌^◌, ◌≤◌, ◌<◌}
 use native.Mathlib.Omega.{arith}
 use lib.Dec.{ltb}
 use lib.IntN.{ℤ}
-use borrow.Author.Rules.{rules}
 use Rattle.numeral.specs.declared.Decimal.{Decimal}
 use Rattle.numeral.specs.declared.Numeral.{Numeral}
 use Rattle.numeral.specs.Numeral.{most, split_at, digits_of, before, behind, float_of, limited, signed, word_of_f32}
 use Rattle.numeral.specs.Inner.{Says}
 use Rattle.numeral.proofs.Laws.{limit_before, limit_behind, limit_number}
-use Rattle.numeral.proofs.Exponent.{counted-some, counted_zeros_is, counted_zeros, counted-small, counted-digits, exponent-long, exponent_small, exponent-few, shifted_is}
+use Rattle.numeral.proofs.Exponent.{counted-some, counted_zeros_is, counted_zeros, counted-small, counted-digits, exponent-few, shifted_is}
 use Rattle.numeral.proofs.SpelledOut.{says}
 use Rattle.numeral.proofs.shifted.Goals as goal
 use Rattle.numeral.proofs.shifted.Lts.{After-shift_of}
@@ -47,27 +46,6 @@ module _ (c : After-shift_of the-claims Pre Post) where
 
   behind-is : c.shift_of-before.result.1 ≡ behind (d.end - d.fraction) x
   behind-is = c.shift_of-before.ensures.1 ∙ ap (λ (n : ℕ). behind n x) c.requires.2.fraction
-
-pub past-x-requires : goal.past-x-requires
-past-x-requires c = (c.requires.2.high, search rules)
-
-pub returns-then-b-e-gt2 : goal.returns-then-b-e-gt2
-returns-then-b-e-gt2 c =
-    let e = c.before.before.before.before in
-    let a = e.args in
-    says a.text.now a.a a.b e.requires.1 (counted-some _ _ _ _ _ _ _ e.requires.2)
-    (ap word_of_f32 (exponent-long _ _ _ _ _ _ _ e.requires.2 _ _ c.past-x.ensures.is c.past-e.ensures.is (float_of a.text.now a.a a.b (split_at a.text.now a.a a.b)) c.if-b-e-gt2.true))
-
-pub value-n-requires : goal.value-n-requires
-value-n-requires c = (c.past-e.ensures.high, search rules, search rules, search rules, search rules)
-
-pub shift_of-before-requires : goal.shift_of-before-requires
-shift_of-before-requires c =
-    let p = c.requires.2 in
-    let n = exponent_small _ _ _ _ _ _ _ p _ _ c.past-x.ensures.is c.past-e.ensures.is _ _ c.past.ensures.is c.value-n.ensures (omega arith) in
-    let w = p.whole-high in
-    let f = p.fraction-high in
-    (search rules, search rules, omega arith)
 
 pub returns-then-before-gt9 : goal.returns-then-before-gt9
 returns-then-before-gt9 c =
