@@ -6,7 +6,7 @@ use native.Mathlib.Omega.{arith}
 use lib.ListN.{get_or}
 use lib.Dec.{eqb}
 use borrow.Author.Tests.{le-leb, lt-leb}
-use Rattle.scan.proofs.Laws.{le_or_lt, picked}
+use Rattle.scan.proofs.Laws.{le_or_lt, picked, skip_stop, skip_go}
 use Rattle.colour.specs.Colour.{zero_xat}
 
 pub zero_x_fits : (s : List ℕ) (i e : ℕ) → zero_xat s i e ≤ e - i
@@ -18,3 +18,6 @@ zero_x_fits s i e =
     rw (le-leb 2 (e - i) h) (picked (λ j. j ≤ e - i) (eqb (get_or s i 0) 48) _ _ (picked (λ j. j ≤ e - i) (eqb (get_or s (i + 1) 0) 120) 2 0 h z) z))
     (λ (h : e - i < 2). rw (lt-leb 2 (e - i) h) (omega arith))
     (le_or_lt 2 (e - i))
+
+-- one step past a `0x`
+pub ruleset skips = (skip_stop, skip_go, zero_x_fits)

@@ -56,6 +56,7 @@ fn zero_x_at(text: &[u8], i: usize, to: usize) -> usize
 }
 
 // Behind every `0x` from `from` on.
+#[tactic(auto, using(crate::proofs::Laws::skips))]
 fn past_zero_x(text: &[u8], from: usize, to: usize) -> usize
     requires { (from ≤ to) × (to ≤ length text.now) }
     ensures { Place from to (skip_to zero_xat text.now from to) result }

@@ -1,10 +1,7 @@
 use native.Mathlib.Omega.{arith}
 use borrow.Author.Rules.{rules}
-use Rattle.lists.proofs.Laws.{items_last, items_more, listing_start, listing_turn, listing_end}
+use Rattle.lists.proofs.Laws.{items_last, items_more, listing_turn, listing_end}
 use Rattle.lists.proofs.numbers_at.Goals as goal
-
-pub loop-numbers-init : goal.loop-numbers-init
-loop-numbers-init c = (search rules, search rules, search rules, listing_start _)
 
 pub returns-then-c-e : goal.returns-then-c-e
 returns-then-c-e c =
