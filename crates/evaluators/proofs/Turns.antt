@@ -134,9 +134,6 @@ pub record Looping (t dur : ℤ) (ws : List ℕ) (first count : ℕ) (st : Rende
   pub state : apply_tags t dur (tags_at ws at left) post ≡ apply_tags t dur (tags_at ws first count) st
 
 module _ {t dur : ℤ} {ws : List ℕ} {first count : ℕ} {st : RenderState} where
-  pub loop_start : Looping t dur ws first count st first count st
-  loop_start = record { end = refl; less = omega arith; state = refl }
-
   pub loop_done : {at left : ℕ} {post : RenderState} → Looping t dur ws first count st at left post → left ≤ 0 → post ≡ apply_tags t dur (tags_at ws first count) st
   loop_done {at = at} {left = left} {post = post} l h = sym (done_at t dur ws at left post h) ∙ l.state
 

@@ -1,7 +1,6 @@
 -- The tags of a part of a table, and what the loop over its records leaves, in the code's words.
-use Rattle.std.specs.Prelude.{◌≡◌, Bool, true, false, List, ℕ, zero, suc, ◌*◌, min, ℤ, drop}
-use Rattle.refusal.specs.declared.Checked.{Checked}
-use Rattle.refusal.specs.declared.Checked.TheVariants.{Good, Bad}
+use Rattle.std.specs.Prelude.{◌≡◌, Bool, true, false, List, ℕ, ◌*◌, min, ℤ, Option, None, Some, drop, Ok, Err}
+use Rattle.refusal.specs.Refusal.{Checked}
 use Rattle.refusal.specs.declared.Refusal.TheVariants.{TableMalformed}
 use Rattle.tag.specs.declared.Record.{Record}
 use Rattle.tag.specs.Tag.{Tags}
@@ -25,19 +24,19 @@ tags_at ws at n = decode (records_to n (drop (width * at) ws))
 abbrev pub inside_of : Record → ℕ → ℕ
 inside_of r n = min (holds r) n
 
--- what the number in `fault` says: none at fault, or the one with the index n
-abbrev pub told : ℕ → Checked
-told zero = Good
-told (suc n) = Bad (TableMalformed n)
+-- what `fault` says: none at fault, or the one with the index n
+abbrev pub told : Option ℕ → Checked
+told None = Ok tt
+told (Some n) = Err (TableMalformed n)
 
 -- the lent words afterwards: those of the state, where they are asked for and no record is at fault
 abbrev pub words_if : Bool → Checked → RenderState → List ℕ → List ℕ
 words_if false c st v = v
-words_if true (Bad r) st v = v
-words_if true Good st v = state_words st
+words_if true (Err r) st v = v
+words_if true (Ok _) st v = state_words st
 
--- what the loop over count records leaves, d more levels of T being allowed: the state r, the number x, and the lent words v before and u after
-pub record Applied (t dur : ℤ) (ws : List ℕ) (first count d : ℕ) (st : RenderState) (write : Bool) (v : List ℕ) (r : RenderState) (x : ℕ) (u : List ℕ) : Type 0 where
+-- what the loop over count records leaves, d more levels of T being allowed: the state r, what `fault` says, x, and the lent words v before and u after
+pub record Applied (t dur : ℤ) (ws : List ℕ) (first count d : ℕ) (st : RenderState) (write : Bool) (v : List ℕ) (r : RenderState) (x : Option ℕ) (u : List ℕ) : Type 0 where
   pub ground : told x ≡ fault d first (part ws first count)
-  pub state : told x ≡ Good → r ≡ apply_tags t dur (tags_at ws first count) st
+  pub state : told x ≡ Ok tt → r ≡ apply_tags t dur (tags_at ws first count) st
   pub words : u ≡ words_if write (told x) r v

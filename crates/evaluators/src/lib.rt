@@ -1,16 +1,19 @@
 // The evaluators of tags and of \t, which call each other: `apply_tag` and `apply_t` of the Rust.
 #![tactic(auto)]
 
-ghost use Rattle.std.specs.Prelude.{◌≡◌, false, ◌+◌, ◌-◌, ◌<◌};
+ghost use Rattle.std.specs.Prelude.{◌≡◌, None, false, ◌+◌, ◌-◌, ◌<◌};
 ghost use Rattle.table.specs.Inner.{Inside};
 ghost use Rattle.evaluators.specs.Inner.{Applied};
 
 use apply::times::fad_alpha;
-use apply::values::{
-    both, byte, numpad, some_bool, some_f32, some_i32, some_name, some_pair, some_part, some_rect,
-    some_reset, some_rgb, some_u8, some_u16, with_x, with_y,
+use apply::values::{byte, name, numpad, pair, rect, reset_of, rgb, short, with_x, with_y};
+use apply::{above_zero, aligned, all_alphas, fade_by, hundredth, moved, radians, wrapped};
+use float::{f32_of_word, of_word};
+use state::{Pair, Part, RenderState};
+use table::{
+    colour_fits, drawing_fits, fade_fits, float_fits, font_fits, move_fits, number_fits,
+    numbers_fit, pair_fits, rect_fits, reset_fits, shift_fits, t_stands, weight_fits,
 };
-use state::RenderState;
 
 // What the n records inside the T at the index `at` make of the state a.
 // For the compiler (MEASURED, Shapes for the compiler): the times are lent.
@@ -23,18 +26,19 @@ fn apply_t(
     a: RenderState,
     t: &i32,
     dur: &i32,
-    fault: &mut usize,
+    fault: &mut Option<usize>,
     out: &mut [u32; 92],
 ) -> RenderState
-    requires { (0 < deep) × Inside table.now (at + 1) n × (fault.old ≡ 0) }
+    requires { (0 < deep) × Inside table.now (at + 1) n × (fault.old ≡ None) }
     ensures { Applied t.now dur.now table.now (at + 1) n (deep - 1) a false out.old result fault.new out.new }
 {
     apply_tags(table, at + 1, n, deep - 1, a, t, dur, false, fault, out)
 }
 
 // The tags of the `count` records from `first` on, one after the other, with `deep` more levels of T allowed. A record is checked in the arm of
-// its kind and then applied, one field of the state in place; the first at fault ends it, and `fault` then holds its index and 1, which is 0
-// before. Behind the last record the words of the state are written, if they are asked for.
+// its kind and then applied, one field of the state in place; the first at fault ends it, and `fault`, which held nothing, then holds its
+// index: a Result with the state in it would lie on the stack of each level of T. Behind the last record the words of the state are written,
+// if they are asked for.
 // For the compiler (MEASURED, Shapes for the compiler): the times are lent.
 #[cycle(tags)]
 pub fn apply_tags(
@@ -46,10 +50,10 @@ pub fn apply_tags(
     t: &i32,
     dur: &i32,
     write: bool,
-    fault: &mut usize,
+    fault: &mut Option<usize>,
     out: &mut [u32; 92],
 ) -> RenderState
-    requires { Inside table.now first count × (fault.old ≡ 0) }
+    requires { Inside table.now first count × (fault.old ≡ None) }
     ensures { Applied t.now dur.now table.now first count deep st write out.old result fault.new out.new }
 {
     let mut post = st;
@@ -57,460 +61,101 @@ pub fn apply_tags(
     let end = first + count;
     while at < end {
         let r = table::record_at(table, at);
-        let kind = r.kind;
-        // For the compiler (MEASURED, Shapes for the compiler): an arm asks the test of its kind by name. An option is stored by a local of its
-        // group, as the prover covers no store of a struct into a field of a field.
-        match kind {
-            1 => {
-                if table::numbers_fit(r, 2147483647, 2147483647) {
-                    let m = fad_alpha(r.w1, r.w2, *t, *dur);
-                    let v = post.always.alpha_mul * m;
-                    post.always.alpha_mul = v;
-                } else {
-                    break;
-                }
+        // For the compiler (MEASURED, Shapes for the compiler): an arm asks the test of its kind by name.
+        match r.kind {
+            1 if numbers_fit(r, 2147483647, 2147483647) => {
+                post.always.alpha_mul *= fad_alpha(r.w1, r.w2, *t, *dur);
             }
-            2 => {
-                if table::fade_fits(r) {
-                    let m = apply::fade_by(r.w1, r.w2, r.w3, r.w4, r.w5, r.w6, r.w7, *t);
-                    let v = post.always.alpha_mul * m;
-                    post.always.alpha_mul = v;
-                } else {
-                    break;
-                }
+            2 if fade_fits(r) => {
+                post.always.alpha_mul *= fade_by(r.w1, r.w2, r.w3, r.w4, r.w5, r.w6, r.w7, *t);
             }
-            3 => {
-                if table::pair_fits(r) {
-                    let mut s = post.places;
-                    s.translate = some_pair(r.w1, r.w2);
-                    post.places = s;
-                } else {
-                    break;
-                }
+            3 if pair_fits(r) => post.places.translate = Some(pair(r.w1, r.w2)),
+            4 if move_fits(r) => {
+                let k = ramp::advance_by(r.w5, r.w6, r.w7, *t, *dur);
+                post.places.translate = Some(moved(r.w1, r.w2, r.w3, r.w4, k));
             }
-            4 => {
-                if table::move_fits(r) {
-                    let k = ramp::advance_by(r.w5, r.w6, r.w7, *t, *dur);
-                    let mut s = post.places;
-                    s.translate = apply::moved(r.w1, r.w2, r.w3, r.w4, k);
-                    post.places = s;
-                } else {
-                    break;
-                }
+            5 if float_fits(r) => post.always.rotate_radians = radians(r.w1),
+            6 if float_fits(r) => post.always.blur_sigma = above_zero(r.w1),
+            7 if float_fits(r) => post.always.scale.x = hundredth(r.w1),
+            8 if float_fits(r) => post.always.scale.y = hundredth(r.w1),
+            9 if colour_fits(r) => post.colors.primary_color = Some(rgb(r.w1, r.w2, r.w3)),
+            10 if float_fits(r) => post.sizes.font_size = Some(f32_of_word(r.w1)),
+            11 if rect_fits(r) => post.clips.clip_rect = Some(rect(r.w1, r.w2, r.w3, r.w4)),
+            12 if drawing_fits(r) => post.line.clip_drawing = Some(Part {
+                offset: r.w1,
+                size: r.w2,
+            }),
+            13 if float_fits(r) => post.always.rotate_x_radians = radians(r.w1),
+            14 if float_fits(r) => post.always.rotate_y_radians = radians(r.w1),
+            15 if pair_fits(r) => post.line.pivot = Some(pair(r.w1, r.w2)),
+            16 if float_fits(r) => post.places.border = Some(Pair::splat(above_zero(r.w1))),
+            17 if float_fits(r) => {
+                post.places.border = Some(with_x(post.places.border, above_zero(r.w1)));
             }
-            5 => {
-                if table::float_fits(r) {
-                    let v = apply::radians(r.w1);
-                    post.always.rotate_radians = v;
-                } else {
-                    break;
-                }
+            18 if float_fits(r) => {
+                post.places.border = Some(with_y(post.places.border, above_zero(r.w1)));
             }
-            6 => {
-                if table::float_fits(r) {
-                    let v = apply::above_zero(r.w1);
-                    post.always.blur_sigma = v;
-                } else {
-                    break;
-                }
+            19 if float_fits(r) => post.places.shadow = Some(Pair::splat(above_zero(r.w1))),
+            20 if float_fits(r) => {
+                post.places.shadow = Some(with_x(post.places.shadow, f32_of_word(r.w1)));
             }
-            7 => {
-                if table::float_fits(r) {
-                    let v = apply::hundredth(r.w1);
-                    post.always.scale.x = v;
-                } else {
-                    break;
-                }
+            21 if float_fits(r) => {
+                post.places.shadow = Some(with_y(post.places.shadow, f32_of_word(r.w1)));
             }
-            8 => {
-                if table::float_fits(r) {
-                    let v = apply::hundredth(r.w1);
-                    post.always.scale.y = v;
-                } else {
-                    break;
-                }
+            22 if number_fits(r, 0, 255) => post.always.be_strength = byte(r.w1),
+            23 if float_fits(r) => post.always.shear.x = f32_of_word(r.w1),
+            24 if float_fits(r) => post.always.shear.y = f32_of_word(r.w1),
+            25 if rect_fits(r) => post.clips.iclip_rect = Some(rect(r.w1, r.w2, r.w3, r.w4)),
+            26 if drawing_fits(r) => post.line.iclip_drawing = Some(Part {
+                offset: r.w1,
+                size: r.w2,
+            }),
+            27 if colour_fits(r) => post.colors.secondary_color = Some(rgb(r.w1, r.w2, r.w3)),
+            28 if colour_fits(r) => post.colors.outline_color = Some(rgb(r.w1, r.w2, r.w3)),
+            29 if colour_fits(r) => post.colors.shadow_color = Some(rgb(r.w1, r.w2, r.w3)),
+            30 if number_fits(r, 0, 255) => post.alphas = all_alphas(r.w1),
+            31 if number_fits(r, 0, 255) => post.alphas.primary_alpha = Some(byte(r.w1)),
+            32 if number_fits(r, 0, 255) => post.alphas.secondary_alpha = Some(byte(r.w1)),
+            33 if number_fits(r, 0, 255) => post.alphas.outline_alpha = Some(byte(r.w1)),
+            34 if number_fits(r, 0, 255) => post.alphas.shadow_alpha = Some(byte(r.w1)),
+            35 if float_fits(r) => post.sizes.letter_spacing = Some(f32_of_word(r.w1)),
+            36 if number_fits(r, 0, 3) => post.line = wrapped(post.line, r.w1),
+            37 if number_fits(r, 1, 9) => post.line = aligned(post.line, r.w1),
+            38 if number_fits(r, 0, 255) => post.line = aligned(post.line, numpad(r.w1)),
+            39 if font_fits(r) => post.font.font_name = Some(name(r.w1, r.w2, r.w3, r.w4)),
+            40 if number_fits(r, 0, 255) => post.font.font_encoding = Some(byte(r.w1)),
+            41 if reset_fits(r) => {
+                post = state::identity();
+                post.line.reset_to_style = Some(reset_of(r.w1, r.w2, r.w3));
             }
-            9 => {
-                if table::colour_fits(r) {
-                    let mut s = post.colors;
-                    s.primary_color = some_rgb(r.w1, r.w2, r.w3);
-                    post.colors = s;
-                } else {
-                    break;
-                }
-            }
-            10 => {
-                if table::float_fits(r) {
-                    let mut s = post.sizes;
-                    s.font_size = some_f32(r.w1);
-                    post.sizes = s;
-                } else {
-                    break;
-                }
-            }
-            11 => {
-                if table::rect_fits(r) {
-                    let mut s = post.clips;
-                    s.clip_rect = some_rect(r.w1, r.w2, r.w3, r.w4);
-                    post.clips = s;
-                } else {
-                    break;
-                }
-            }
-            12 => {
-                if table::drawing_fits(r) {
-                    let mut s = post.line;
-                    s.clip_drawing = some_part(r.w1, r.w2);
-                    post.line = s;
-                } else {
-                    break;
-                }
-            }
-            13 => {
-                if table::float_fits(r) {
-                    let v = apply::radians(r.w1);
-                    post.always.rotate_x_radians = v;
-                } else {
-                    break;
-                }
-            }
-            14 => {
-                if table::float_fits(r) {
-                    let v = apply::radians(r.w1);
-                    post.always.rotate_y_radians = v;
-                } else {
-                    break;
-                }
-            }
-            15 => {
-                if table::pair_fits(r) {
-                    let mut s = post.line;
-                    s.pivot = some_pair(r.w1, r.w2);
-                    post.line = s;
-                } else {
-                    break;
-                }
-            }
-            16 => {
-                if table::float_fits(r) {
-                    let mut s = post.places;
-                    s.border = both(apply::above_zero(r.w1));
-                    post.places = s;
-                } else {
-                    break;
-                }
-            }
-            17 => {
-                if table::float_fits(r) {
-                    let mut s = post.places;
-                    let now = s.border;
-                    let old = now.is;
-                    s.border = with_x(old, apply::above_zero(r.w1));
-                    post.places = s;
-                } else {
-                    break;
-                }
-            }
-            18 => {
-                if table::float_fits(r) {
-                    let mut s = post.places;
-                    let now = s.border;
-                    let old = now.is;
-                    s.border = with_y(old, apply::above_zero(r.w1));
-                    post.places = s;
-                } else {
-                    break;
-                }
-            }
-            19 => {
-                if table::float_fits(r) {
-                    let mut s = post.places;
-                    s.shadow = both(apply::above_zero(r.w1));
-                    post.places = s;
-                } else {
-                    break;
-                }
-            }
-            20 => {
-                if table::float_fits(r) {
-                    let mut s = post.places;
-                    let now = s.shadow;
-                    let old = now.is;
-                    s.shadow = with_x(old, float::f32_of_word(r.w1));
-                    post.places = s;
-                } else {
-                    break;
-                }
-            }
-            21 => {
-                if table::float_fits(r) {
-                    let mut s = post.places;
-                    let now = s.shadow;
-                    let old = now.is;
-                    s.shadow = with_y(old, float::f32_of_word(r.w1));
-                    post.places = s;
-                } else {
-                    break;
-                }
-            }
-            22 => {
-                if table::number_fits(r, 0, 255) {
-                    let v = byte(r.w1);
-                    post.always.be_strength = v;
-                } else {
-                    break;
-                }
-            }
-            23 => {
-                if table::float_fits(r) {
-                    let v = float::f32_of_word(r.w1);
-                    post.always.shear.x = v;
-                } else {
-                    break;
-                }
-            }
-            24 => {
-                if table::float_fits(r) {
-                    let v = float::f32_of_word(r.w1);
-                    post.always.shear.y = v;
-                } else {
-                    break;
-                }
-            }
-            25 => {
-                if table::rect_fits(r) {
-                    let mut s = post.clips;
-                    s.iclip_rect = some_rect(r.w1, r.w2, r.w3, r.w4);
-                    post.clips = s;
-                } else {
-                    break;
-                }
-            }
-            26 => {
-                if table::drawing_fits(r) {
-                    let mut s = post.line;
-                    s.iclip_drawing = some_part(r.w1, r.w2);
-                    post.line = s;
-                } else {
-                    break;
-                }
-            }
-            27 => {
-                if table::colour_fits(r) {
-                    let mut s = post.colors;
-                    s.secondary_color = some_rgb(r.w1, r.w2, r.w3);
-                    post.colors = s;
-                } else {
-                    break;
-                }
-            }
-            28 => {
-                if table::colour_fits(r) {
-                    let mut s = post.colors;
-                    s.outline_color = some_rgb(r.w1, r.w2, r.w3);
-                    post.colors = s;
-                } else {
-                    break;
-                }
-            }
-            29 => {
-                if table::colour_fits(r) {
-                    let mut s = post.colors;
-                    s.shadow_color = some_rgb(r.w1, r.w2, r.w3);
-                    post.colors = s;
-                } else {
-                    break;
-                }
-            }
-            30 => {
-                if table::number_fits(r, 0, 255) {
-                    post.alphas = apply::all_alphas(r.w1);
-                } else {
-                    break;
-                }
-            }
-            31 => {
-                if table::number_fits(r, 0, 255) {
-                    let mut s = post.alphas;
-                    s.primary_alpha = some_u8(r.w1);
-                    post.alphas = s;
-                } else {
-                    break;
-                }
-            }
-            32 => {
-                if table::number_fits(r, 0, 255) {
-                    let mut s = post.alphas;
-                    s.secondary_alpha = some_u8(r.w1);
-                    post.alphas = s;
-                } else {
-                    break;
-                }
-            }
-            33 => {
-                if table::number_fits(r, 0, 255) {
-                    let mut s = post.alphas;
-                    s.outline_alpha = some_u8(r.w1);
-                    post.alphas = s;
-                } else {
-                    break;
-                }
-            }
-            34 => {
-                if table::number_fits(r, 0, 255) {
-                    let mut s = post.alphas;
-                    s.shadow_alpha = some_u8(r.w1);
-                    post.alphas = s;
-                } else {
-                    break;
-                }
-            }
-            35 => {
-                if table::float_fits(r) {
-                    let mut s = post.sizes;
-                    s.letter_spacing = some_f32(r.w1);
-                    post.sizes = s;
-                } else {
-                    break;
-                }
-            }
-            36 => {
-                if table::number_fits(r, 0, 3) {
-                    let s = post.line;
-                    post.line = apply::wrapped(s, r.w1);
-                } else {
-                    break;
-                }
-            }
-            37 => {
-                if table::number_fits(r, 1, 9) {
-                    let s = post.line;
-                    post.line = apply::aligned(s, r.w1);
-                } else {
-                    break;
-                }
-            }
-            38 => {
-                if table::number_fits(r, 0, 255) {
-                    let s = post.line;
-                    post.line = apply::aligned(s, numpad(r.w1));
-                } else {
-                    break;
-                }
-            }
-            39 => {
-                if table::font_fits(r) {
-                    let mut s = post.font;
-                    s.font_name = some_name(r.w1, r.w2, r.w3, r.w4);
-                    post.font = s;
-                } else {
-                    break;
-                }
-            }
-            40 => {
-                if table::number_fits(r, 0, 255) {
-                    let mut s = post.font;
-                    s.font_encoding = some_u8(r.w1);
-                    post.font = s;
-                } else {
-                    break;
-                }
-            }
-            41 => {
-                if table::reset_fits(r) {
-                    post = state::identity();
-                    let mut s = post.line;
-                    s.reset_to_style = some_reset(r.w1, r.w2, r.w3);
-                    post.line = s;
-                } else {
-                    break;
-                }
-            }
-            42 => {
-                if table::weight_fits(r) {
-                    let mut s = post.font;
-                    s.bold_weight = some_u16(r.w1);
-                    post.font = s;
-                } else {
-                    break;
-                }
-            }
-            43 => {
-                if table::number_fits(r, 0, 1) {
-                    let mut s = post.font;
-                    s.italic = some_bool(r.w1);
-                    post.font = s;
-                } else {
-                    break;
-                }
-            }
-            44 => {
-                if table::number_fits(r, 0, 1) {
-                    let mut s = post.font;
-                    s.underline = some_bool(r.w1);
-                    post.font = s;
-                } else {
-                    break;
-                }
-            }
-            45 => {
-                if table::number_fits(r, 0, 1) {
-                    let mut s = post.font;
-                    s.strikeout = some_bool(r.w1);
-                    post.font = s;
-                } else {
-                    break;
-                }
-            }
-            46 => {
-                if !table::numbers_fit(r, 2, 1000000000) {
-                    break;
-                }
-            }
-            47 => {
-                if table::shift_fits(r) {
-                    let mut s = post.sizes;
-                    s.drawing_baseline_offset = some_i32(r.w1);
-                    post.sizes = s;
-                } else {
-                    break;
-                }
-            }
-            48 => {
-                if table::number_fits(r, 0, 255) {
-                    let mut s = post.line;
-                    s.drawing_scale = some_u8(r.w1);
-                    post.line = s;
-                } else {
-                    break;
-                }
-            }
-            49 => {
+            42 if weight_fits(r) => post.font.bold_weight = Some(short(r.w1)),
+            43 if number_fits(r, 0, 1) => post.font.italic = Some(r.w1 != 0),
+            44 if number_fits(r, 0, 1) => post.font.underline = Some(r.w1 != 0),
+            45 if number_fits(r, 0, 1) => post.font.strikeout = Some(r.w1 != 0),
+            46 if numbers_fit(r, 2, 1000000000) => {}
+            47 if shift_fits(r) => post.sizes.drawing_baseline_offset = Some(of_word(r.w1)),
+            48 if number_fits(r, 0, 255) => post.line.drawing_scale = Some(byte(r.w1)),
+            49 if t_stands(r, end - at - 1, deep) => {
                 let n = r.w5 as usize;
-                if !table::t_stands(r, end - at - 1, deep) {
-                    break;
-                }
                 let k = mix::factor(r.w1, r.w2, r.w3, r.w4, *t, *dur);
                 // For the compiler (MEASURED, Shapes for the compiler): `mix::mix_state` is called in two places, so that it stays a call.
                 if n == 0 {
                     post = mix::mix_state(post, post, k);
                 } else {
                     let b = apply_t(table, at, n, deep, post, t, dur, fault, out);
-                    if *fault > 0 {
+                    if fault.is_some() {
                         return post;
                     }
                     post = mix::mix_state(post, b, k);
                     at += n;
                 }
             }
-            _ => {
-                break;
-            }
+            _ => break,
         }
         at += 1;
     }
     if at < end {
-        *fault = at + 1;
+        *fault = Some(at);
         return post;
     }
     if write {
