@@ -2,17 +2,18 @@
 use mathlib.Core.Path.{◌≡◌, sym, ap, ◌∙◌}
 use mathlib.Core.Bool.{Bool, false, cond}
 use Prim.Native.Nat.{ℕ, ◌*◌, ◌^◌, ◌<◌}
-use native.Mathlib.Nat.{mul-one, mul_assoc, mul_comm, mul_left_comm, mul-pos, lt_of_lt_of_le}
+use native.Mathlib.Nat.{mul-one, mul_assoc, mul_comm, mul_left_comm, mul-pos, lt_of_lt_of_le, pow-le-pow_right}
 use native.Mathlib.Omega.{arith}
-use lib.Dec.{lit<, lit≤, eqb}
+use lib.Dec.{T, lit<, lit≤, eqb, le→leb}
 use borrow.Author.Tests.{ne_eqb}
 use lib.IntN.{ℤ, pos}
 use lib.Pow.{shl_lt}
-use lib.Ieee.{Float, nan, inf, fin, binary32, up, down, unlike, round, div, of_int}
+use lib.Ieee.{Float, nan, inf, fin, binary32, up, down, unlike, round, div, of_int, in_float}
 use lib.Ieee.Fits.{down_pos}
 use lib.Ieee.Exact.{HasValue, round_exact}
 use lib.Ieee.Positive.{first_pos}
 use lib.Ieee.Scale.{round_same}
+use Rattle.decimal.proofs.Law.{ten_pos}
 
 div_fin : (s t : Bool) (m n : ℕ) (e d : ℤ) → ¬ (n ≡ 0) → div binary32 (fin s m e) (fin t n d) ≡ round binary32 (unlike s t) (m * up e * down d) (n * up d * down e)
 unfolding div
@@ -39,5 +40,16 @@ whole_float : (n : ℕ) → n < 16777216 → HasValue (of_int binary32 (pos n)) 
 unfolding of_int
 whole_float n h = round_exact binary32 false n 1 n 149 (lit< tt) h (lt_of_lt_of_le (shl_lt 24 149 h) (lit≤ tt)) (sym (mul-one (n * 2 ^ 149)))
 
-pub quotient : (n p : ℕ) → n < 16777216 → p < 16777216 → 0 < p → div binary32 (of_int binary32 (pos n)) (of_int binary32 (pos p)) ≡ round binary32 false n p
+quotient : (n p : ℕ) → n < 16777216 → p < 16777216 → 0 < p → div binary32 (of_int binary32 (pos n)) (of_int binary32 (pos p)) ≡ round binary32 false n p
 quotient n p h k z = div_at (of_int binary32 (pos n)) (of_int binary32 (pos p)) n p (whole_float n h) (whole_float p k) z
+
+-- ---- by a power of ten
+small : (n : ℕ) → n < 8 → 10 ^ n < 16777216
+small n h = omega (arith, pow-le-pow_right {n = 10} (lit< tt) {i = n} {j = 7} (omega arith))
+
+pub ten_float : (n p : ℕ) → p ≡ 10 ^ n → n < 8 → T (in_float binary32 (pos p))
+unfolding in_float
+ten_float n p e h = le→leb p 16777216 (omega (arith, small n h))
+
+pub by_ten : (m n p : ℕ) → p ≡ 10 ^ n → m < 16777216 → n < 8 → div binary32 (of_int binary32 (pos m)) (of_int binary32 (pos p)) ≡ round binary32 false m (10 ^ n)
+by_ten m n p e g h = rw e (quotient m (10 ^ n) g (small n h) (ten_pos n))

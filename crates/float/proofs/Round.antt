@@ -1,9 +1,10 @@
 -- A float rounded to a whole number, and that number cast: nothing is lost on the way.
-use Rattle.std.proofs.Common.{◌≡◌, ℕ, zero, suc, ◌+◌, ◌-◌, ◌*◌, ◌/◌, ◌%◌, ◌^◌, ◌<◌, min, Bool, true, false, cond, ◌&&◌, T, eqb, ltb, leb, ℤ, pos, negsuc, neg_ℤ, sym, refl, ap, ◌∙◌, le_of_eq, lt_of_lt_of_le, lt_of_le_of_lt, mul_assoc, mul-one, zero-mul, div-lt_iff_lt-mul, mul-div_cancel, arith, lit<, lit≤, ltb→lt, pow_pos, pow-add, shl_lt}
+use Rattle.std.proofs.Common.{◌≡◌, ℕ, zero, suc, ◌+◌, ◌-◌, ◌*◌, ◌/◌, ◌^◌, ◌<◌, min, Bool, true, false, cond, T, ℤ, pos, negsuc, neg_ℤ, sym, refl, ap, ◌∙◌, subst, le_of_eq, lt_of_lt_of_le, lt_of_le_of_lt, mul_assoc, mul-one, zero-mul, div-lt_iff_lt-mul, mul-div_cancel, arith, lit<, lit≤, pow_pos, pow-add, shl_lt}
 use lib.Ieee.{Float, nan, inf, fin, binary32, up, down, fits, round, to_signed, to_unsigned}
-use lib.Ieee.Fits.{and_l, and_r, down_pos}
+use lib.Ieee.Fits.{down_pos}
 use lib.Ieee.Exact.{HasValue, round_exact}
 use Rattle.std.specs.Float.{float_round, round_with}
+use Rattle.float.proofs.Units.{parts}
 use Rattle.float.specs.Float.{round_size, round_away, round_byte}
 
 -- what a cast makes of a whole number
@@ -20,14 +21,8 @@ cut (fin t m e) s q h =
 
 -- an f32 has 24 digits and an end
 few : (s : Bool) (m : ℕ) (e : ℤ) → T (fits binary32 (fin s m e)) → (m < 2 ^ 24) × (m * up e < 2 ^ 128 * down e)
-unfolding fits
 few s zero e f = (lit< tt, omega (arith, zero-mul (up e), down_pos e))
-few s (suc m) e f =
-    let low = eqb (suc m % 2) 1 && ltb (suc m) (2 ^ 24) in
-    let most = low && leb (down e) (2 ^ 149) in (
-      ltb→lt (suc m) (2 ^ 24) (and_r (eqb (suc m % 2) 1) (ltb (suc m) (2 ^ 24)) (and_l low (leb (down e) (2 ^ 149)) (and_l most (ltb (suc m * up e) (2 ^ 128 * down e)) f))),
-      ltb→lt (suc m * up e) (2 ^ 128 * down e) (and_r most (ltb (suc m * up e) (2 ^ 128 * down e)) f),
-    )
+few s (suc m) e f = let p = parts s m e f in (p.0, p.2)
 
 -- the whole number that is nearest to it is an f32 too
 exact : (s : Bool) (m : ℕ) (e : ℤ) → T (fits binary32 (fin s m e)) → let q = round_size (fin s m e) in HasValue (round binary32 s q 1) s q 1
@@ -56,9 +51,15 @@ exact s m (negsuc a) f =
     below : (q m : ℕ) → q < m + 1 → m < 2 ^ 24 → q < 2 ^ 24
     below q m h k = omega arith
 
-pub rounded : (x : Float) → T (fits binary32 x) → (to_signed 31 (float_round binary32 x) ≡ round_away x) × (to_unsigned 8 (float_round binary32 x) ≡ round_byte x)
+rounded : (x : Float) → T (fits binary32 x) → (to_signed 31 (float_round binary32 x) ≡ round_away x) × (to_unsigned 8 (float_round binary32 x) ≡ round_byte x)
 unfolding round_with to_signed to_unsigned round_away round_byte
 rounded nan f = (refl, refl)
 rounded (inf s) f = (refl, refl)
 rounded (fin false m e) f = cut _ false (round_size (fin false m e)) (exact false m e f)
 rounded (fin true m e) f = cut _ true (round_size (fin true m e)) (exact true m e f)
+
+pub round_away_is : (x r : Float) → fits binary32 x ≡ true → r ≡ float_round binary32 x → to_signed 31 r ≡ round_away x
+round_away_is x r f e = rw e (rounded x (subst T (sym f) tt)).0
+
+pub round_byte_is : (x r : Float) → fits binary32 x ≡ true → r ≡ float_round binary32 x → to_unsigned 8 r ≡ round_byte x
+round_byte_is x r f e = rw e (rounded x (subst T (sym f) tt)).1

@@ -11,12 +11,18 @@ use Rattle.decimal.proofs.Law.{pow-back}
 abbrev pub Grid : ℕ → Type 0
 Grid b = (m : ℕ) × (j : ℕ) × (m < 2 ^ 24) × (b ≡ m * 2 ^ j)
 
--- `fits` of a value that is not 0, taken apart: its first three parts
-parts : (m : ℕ) (e : ℤ) (t : Bool) → T (eqb (suc m % 2) 1 && ltb (suc m) (2 ^ 24) && leb (down e) (2 ^ 149) && t) → (suc m < 2 ^ 24) × (down e ≤ 2 ^ 149)
-parts m e t h =
-    let u = and_l (eqb (suc m % 2) 1 && ltb (suc m) (2 ^ 24) && leb (down e) (2 ^ 149)) t h in (
-      ltb→lt (suc m) (2 ^ 24) (and_r (eqb (suc m % 2) 1) (ltb (suc m) (2 ^ 24)) (and_l (eqb (suc m % 2) 1 && ltb (suc m) (2 ^ 24)) (leb (down e) (2 ^ 149)) u)),
-      leb→le (down e) (2 ^ 149) (and_r (eqb (suc m % 2) 1 && ltb (suc m) (2 ^ 24)) (leb (down e) (2 ^ 149)) u),
+-- `fits` of a value that is not 0, taken apart
+pub parts : (s : Bool) (m : ℕ) (e : ℤ) → T (fits binary32 (fin s (suc m) e)) → (suc m < 2 ^ 24) × (down e ≤ 2 ^ 149) × (suc m * up e < 2 ^ 128 * down e)
+unfolding fits
+parts s m e f =
+    let odd = eqb (suc m % 2) 1 in
+    let few = ltb (suc m) (2 ^ 24) in
+    let fine = leb (down e) (2 ^ 149) in
+    let ends = ltb (suc m * up e) (2 ^ 128 * down e) in
+    let h = and_l (odd && few && fine) ends f in (
+      ltb→lt (suc m) (2 ^ 24) (and_r odd few (and_l (odd && few) fine h)),
+      leb→le (down e) (2 ^ 149) (and_r (odd && few) fine h),
+      ltb→lt (suc m * up e) (2 ^ 128 * down e) (and_r (odd && few && fine) ends f),
     )
 
 abbrev InUnits : Bool → Float → Type 0
@@ -28,7 +34,7 @@ own_units s zero e f = (0, (refl, ap (λ (x : ℕ). x * 2 ^ 149) (zero-mul (up e
 own_units s (suc m) (pos a) f = (
   suc m * 2 ^ (a + 149),
   (refl, mul_assoc (suc m) (2 ^ a) (2 ^ 149) ∙ ap (λ (x : ℕ). suc m * x) (sym (pow-add 2 a 149)) ∙ sym (mul-one (suc m * 2 ^ (a + 149)))),
-  (suc m, a + 149, (parts m (pos a) _ f).0, refl),
+  (suc m, a + 149, (parts s m (pos a) f).0, refl),
 )
 own_units s (suc m) (negsuc a) f = (
   suc m * 2 ^ (149 - suc a),
@@ -38,11 +44,11 @@ own_units s (suc m) (negsuc a) f = (
         ∙ ap (λ (x : ℕ). suc m * x) (ap (λ (x : ℕ). 2 ^ x) (split (suc a) low) ∙ pow-add 2 (149 - suc a) (suc a))
         ∙ sym (mul_assoc (suc m) (2 ^ (149 - suc a)) (2 ^ suc a)),
   ),
-  (suc m, 149 - suc a, (parts m (negsuc a) _ f).0, refl),
+  (suc m, 149 - suc a, (parts s m (negsuc a) f).0, refl),
 )
   where
     low : suc a ≤ 149
-    low = below (suc a) (pow-back (suc a) 150 (lt_of_le_of_lt (parts m (negsuc a) _ f).1 (lit< tt)))
+    low = below (suc a) (pow-back (suc a) 150 (lt_of_le_of_lt (parts s m (negsuc a) f).1 (lit< tt)))
       where
         below : (n : ℕ) → n < 150 → n ≤ 149
         below n h = omega arith

@@ -1,13 +1,9 @@
 -- An i32 in two's complement, and back.
-use Rattle.std.proofs.Common.{◌≡◌, ℕ, suc, ◌-◌, ◌^◌, ◌<◌, ◌≤◌, Bool, true, false, cond, T, ltb, ℤ, pos, negsuc, nat_abs, sym, refl, ap, ◌∙◌, true≢false, arith, w32, Fits, SFits, to_z, le-ltb, lt-ltb}
+use Rattle.std.proofs.Common.{◌≡◌, ℕ, suc, ◌-◌, ◌^◌, Bool, true, false, cond, T, ltb, ℤ, pos, negsuc, nat_abs, sym, refl, ap, ◌∙◌, true≢false, w32, to_z-of_z, Fits, SFits, to_z}
 use lib.Signed.{le_z, non_neg}
 use mir.Val.{sel}
 use mir.Facts.{Fits-nat_abs}
 use Rattle.float.specs.Float.{to_word, of_word}
-
--- what is left of 2 ^ 32, twice
-left_twice : (n : ℕ) → n < 2 ^ 32 → 2 ^ 32 - suc (2 ^ 32 - suc n) ≡ n
-left_twice n h = omega arith
 
 -- ---- a signed number's bits: y is the number as the code reads it
 pub up_case : (y z : ℤ) → y ≡ z → SFits w32 y → le_z (pos 0) y ≡ true → (T (non_neg y) × Fits w32 (nat_abs y)) × (nat_abs y ≡ to_word z)
@@ -25,14 +21,5 @@ signed_is n = go (ltb n (2 ^ 31))
 
 -- ---- there and back
 pub of_word-to_word : (z : ℤ) → SFits w32 z → of_word (to_word z) ≡ z
-unfolding of_word
-of_word-to_word (pos n) f = ap (λ (t : Bool). cond t (pos n) (negsuc (2 ^ 32 - suc n))) (lt-ltb n (2 ^ 31) f.sfits)
-of_word-to_word (negsuc n) f =
-    ap (λ (t : Bool). cond t (pos (2 ^ 32 - suc n)) (negsuc (2 ^ 32 - suc (2 ^ 32 - suc n)))) (le-ltb (2 ^ 32 - suc n) (2 ^ 31) (high n f.sfits))
-    ∙ ap negsuc (left_twice n (more n f.sfits))
-  where
-    high : (n : ℕ) → n < 2 ^ 31 → 2 ^ 31 ≤ 2 ^ 32 - suc n
-    high n h = omega arith
-
-    more : (n : ℕ) → n < 2 ^ 31 → n < 2 ^ 32
-    more n h = omega arith
+of_word-to_word (pos n) f = sym (signed_is n) ∙ to_z-of_z f
+of_word-to_word (negsuc n) f = sym (signed_is (2 ^ 32 - suc n)) ∙ to_z-of_z f

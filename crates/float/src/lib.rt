@@ -72,6 +72,7 @@ pub fn to_word(z: i32) -> u32
 }
 
 // The i32 of a word in two's complement.
+#[tactic(auto, using(crate::proofs::Words::signed_is))]
 pub fn of_word(n: u32) -> i32
     ensures { result ≡ of_word n }
 {
@@ -100,6 +101,7 @@ pub fn cut(x: f32) -> i32
 }
 
 // x to the nearest whole number, a half going away from zero: Rust's `round() as i32`.
+#[tactic(auto, using(crate::proofs::Round::round_away_is))]
 pub fn round_away(x: f32) -> i32
     ensures { result ≡ round_away x }
 {
@@ -114,6 +116,7 @@ pub fn cut_byte(x: f32) -> u8
 }
 
 // x to the nearest byte, a half going up: Rust's `clamp(0.0, 255.0).round() as u8`.
+#[tactic(auto, using(crate::proofs::Round::round_byte_is))]
 pub fn round_byte(x: f32) -> u8
     ensures { result ≡ round_byte x }
 {

@@ -8,6 +8,7 @@ ghost use Rattle.root.specs.Inner.{Digits, part};
 ghost use Rattle.power.specs.Power.{times, if_one, roots, steps, power256, power_up, power};
 
 // 256 times a, cut down to a whole number, at most 64 * 256.
+#[tactic(auto, using(crate::proofs::Steps::below_64, crate::proofs::Steps::from_64))]
 fn in_256ths(a: f32) -> u32
     requires { T (Ieee.lt zero a) }
     ensures { result ≡ steps a }
@@ -20,6 +21,7 @@ fn in_256ths(a: f32) -> u32
 }
 
 // x multiplied n times over.
+#[tactic(auto, using(crate::proofs::Law::a_one, crate::proofs::Law::times_step, crate::proofs::Law::times_end))]
 fn whole(x: f32, n: u32) -> f32
     ensures { result ≡ times n x one }
 {
@@ -31,6 +33,7 @@ fn whole(x: f32, n: u32) -> f32
 }
 
 // p, multiplied by y if v has a 1 at the digit d.
+#[tactic(auto, using(crate::proofs::Law::if_some, crate::proofs::Law::if_zero))]
 fn times_digit(p: f32, y: f32, v: u32, d: u32) -> f32
     requires { d < 8 }
     ensures { result ≡ if_one (v / 2 ^ d % 2) y p }
@@ -39,6 +42,7 @@ fn times_digit(p: f32, y: f32, v: u32, d: u32) -> f32
 }
 
 // p with v's d lowest binary digits, starting from the f32 whose digits are m, two roots a turn.
+#[tactic(auto, using(crate::proofs::Law::shifted_pos, crate::proofs::Law::some_digits, crate::proofs::Law::near_step, crate::proofs::Law::roots_end))]
 fn near_one(m: u64, v: u32, d: u32, whole: f32) -> f32
     requires { Digits m × (d ≤ 8) }
     ensures { result ≡ roots d v (part m) whole }
@@ -61,6 +65,7 @@ fn near_one(m: u64, v: u32, d: u32, whole: f32) -> f32
 }
 
 // p with the eight binary digits of v's fraction. No root is taken once the digits left are all 0: none for a whole power, one for a half.
+#[tactic(auto, using(crate::proofs::Law::shifted_pos, crate::proofs::Law::some_digits, crate::proofs::Law::roots_step, crate::proofs::Law::roots_end))]
 fn fraction(x: f32, v: u32, whole: f32) -> f32
     ensures { result ≡ roots 8 v x whole }
 {
@@ -80,6 +85,7 @@ fn fraction(x: f32, v: u32, whole: f32) -> f32
 }
 
 // x to the power v / 256.
+#[tactic(auto, unfolding(crate::specs::Power::power256))]
 fn power_256(x: f32, v: u32) -> f32
     ensures { result ≡ power256 x v }
 {
@@ -87,6 +93,7 @@ fn power_256(x: f32, v: u32) -> f32
 }
 
 // x to a power above 0.
+#[tactic(auto, using(crate::proofs::Law::of_one), unfolding(crate::specs::Power::power_up))]
 fn power_up(x: f32, a: f32) -> f32
     requires { T (Ieee.lt zero a) }
     ensures { result ≡ power_up x a }
@@ -101,6 +108,7 @@ fn power_up(x: f32, a: f32) -> f32
 }
 
 // x to the power a.
+#[tactic(auto, unfolding(crate::specs::Power::power))]
 pub fn power_of(x: f32, a: f32) -> f32
     ensures { result ≡ power x a }
 {
