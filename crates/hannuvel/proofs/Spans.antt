@@ -10,45 +10,46 @@ use lib.Ieee.Bits.{to_bits-lt}
 use lib.ListN.{length}
 use Rattle.scan.proofs.Laws.{picked}
 use Rattle.rows.specs.Rows.{bits}
-use Rattle.refusal.specs.Refusal.{number_of, place_of, most_places}
+use Rattle.refusal.specs.Refusal.{Checked, number_of, place_of, most_places}
 use Rattle.refusal.specs.declared.Refusal.TheVariants.{TimeOutOfRange}
-use Rattle.refusal.specs.declared.Checked.{Checked}
-use Rattle.refusal.specs.declared.Checked.TheVariants.{Good, Bad}
-use Rattle.refusal.specs.declared.Answer.{Answer}
+use Rattle.std.specs.Prelude.{Result, Ok, Err, Option, Some, None}
 use Rattle.refusal.proofs.Laws.{place_in}
-use Rattle.refusal.specs.Answer.{number_in, ground_of, room_for, unless_bad, answer_value}
+use Rattle.refusal.specs.Answer.{Answer, number_in, ground_of, room_for, unless_bad, answer_value}
 use Rattle.tag.specs.WellFormed.{table_ground}
 use Rattle.table.specs.Ground.{in_time}
 use Rattle.karaoke.specs.declared.KaraokeSpan.{KaraokeSpan}
 use Rattle.karaoke.specs.Answer.{spans_of, answer_to, answer}
 use Rattle.karaoke.specs.Progress as Progress
-use Rattle.karaoke.specs.Progress.{whole, progress_in, instant_ground, progressed_or, progressed, progress_of}
+use Rattle.karaoke.specs.Progress.{Progressed, whole, progress_in, instant_ground, progressed, progress_of}
+use Rattle.std.specs.Result.{result_and}
 use Rattle.karaoke.proofs.Filling.{few-spans}
 use Rattle.karaoke.proofs.Unit.{progress_fits}
 use Rattle.hannuvel.specs.Packed.{Says, SaysAnswer}
-use Rattle.hannuvel.specs.Inner.{answer_word, progress_word}
+use Rattle.hannuvel.specs.Inner.{answer_word, count_word, progress_word}
 use Rattle.hannuvel.proofs.Unpacked.{unpacked, plain, Low, table-low}
 
 -- ---- `hannuvel_karaoke_spans`
 
 small : (ws : List ℕ) (places : ℕ) (c : Checked) → table_ground ws ≡ c → Low c → answer_value (unless_bad c (room_for (length (spans_of ws)) places)) ≤ most_places
-small ws places Good e l =
+small ws places (Ok _) e l =
     picked (λ (a : Answer). answer_value a ≤ most_places) (leb (length (spans_of ws)) (min places most_places)) _ _ (few-spans ws e) (few-spans ws e)
-small ws places (Bad r) e l = l
+small ws places (Err r) e l = l
 
-pub spans_say : (ws : List ℕ) (places : ℕ) {r : ℕ} → r ≡ answer_word (answer ws places) → SaysAnswer r (answer ws places)
+counted_says : (a : Answer) {r : ℕ} → answer_value a ≤ most_places → r ≡ answer_word count_word a → SaysAnswer r a
+counted_says (Ok n) h e = rw e (plain 0 n (le_trans h (lit≤ tt)))
+counted_says (Err g) h e = rw e (plain (number_of g) (place_of g) (le_trans h (lit≤ tt)))
+
+pub spans_say : (ws : List ℕ) (places : ℕ) {r : ℕ} → r ≡ answer_word count_word (answer ws places) → SaysAnswer r (answer ws places)
 unfolding answer_to
-spans_say ws places e =
-    let a = answer ws places in
-    rw e (plain (number_in (ground_of a)) (answer_value a) (le_trans (small ws places (table_ground ws) refl (table-low ws (table_ground ws) refl)) (lit≤ tt)))
+spans_say ws places e = counted_says (answer ws places) (small ws places (table_ground ws) refl (table-low ws (table_ground ws) refl)) e
 
 -- ---- `hannuvel_progress`
 
-bits_say : (c : Checked) (x : Float) → T (fits binary32 (progress_of (progressed_or c x))) → place_in c ≤ most_places → let p = progressed_or c x in Says (progress_word p) (Progress.ground_of p) 0 (bits (progress_of p))
-bits_say Good x f h = unpacked 0 0 (bits x) (lit< tt) (lt_of_lt_of_le (to_bits-lt binary32 x f) (lit≤ tt))
-bits_say (Bad r) x f h = plain (number_of r) (place_of r) (le_trans h (lit≤ tt))
+bits_say : (c : Checked) (x : Float) → T (fits binary32 (progress_of (result_and c (Ok x)))) → place_in c ≤ most_places → let p = result_and c (Ok x) in Says (answer_word progress_word p) (Progress.ground_of p) 0 (bits (progress_of p))
+bits_say (Ok _) x f h = unpacked 0 0 (bits x) (lit< tt) (lt_of_lt_of_le (to_bits-lt binary32 x f) (lit≤ tt))
+bits_say (Err r) x f h = plain (number_of r) (place_of r) (le_trans h (lit≤ tt))
 
-pub progress_says : (s : KaraokeSpan) (t : ℤ) {r : ℕ} → r ≡ progress_word (progressed s t) → let p = progressed s t in Says r (Progress.ground_of p) 0 (bits (progress_of p))
+pub progress_says : (s : KaraokeSpan) (t : ℤ) {r : ℕ} → r ≡ answer_word progress_word (progressed s t) → let p = progressed s t in Says r (Progress.ground_of p) 0 (bits (progress_of p))
 unfolding progressed
 progress_says s t e =
-    rw e (bits_say (instant_ground t) (progress_in (whole s.start_ms) (whole s.end_ms) t) (progress_fits s t) (picked (λ (c : Checked). place_in c ≤ most_places) (in_time t) Good (Bad TimeOutOfRange) (lit≤ tt) (lit≤ tt)))
+    rw e (bits_say (instant_ground t) (progress_in (whole s.start_ms) (whole s.end_ms) t) (progress_fits s t) (picked (λ (c : Checked). place_in c ≤ most_places) (in_time t) (Ok tt) (Err TimeOutOfRange) (lit≤ tt) (lit≤ tt)))

@@ -1,17 +1,14 @@
 -- Answers as one number. Bits 48 to 63: 01's number of the ground, 0 for an answer; bits 32 to 47: an extra; bits 0 to 31: the value, or the ground's place or count.
-use Rattle.std.specs.Prelude.{◌≡◌, List, ℕ, ◌/◌, ◌%◌, ◌^◌, ◌≤◌}
-use Rattle.refusal.specs.declared.Answer.{Answer}
-use Rattle.refusal.specs.declared.Checked.{Checked}
-use Rattle.refusal.specs.declared.Checked.TheVariants.{Good, Bad}
-use Rattle.refusal.specs.Refusal.{number_of, place_of}
-use Rattle.refusal.specs.Answer.{number_in, ground_of, answer_value}
+use Rattle.std.specs.Prelude.{◌≡◌, List, ℕ, ◌/◌, ◌%◌, ◌^◌, ◌≤◌, Ok, Err}
+use Rattle.refusal.specs.Refusal.{Checked, number_of, place_of, text_ground}
+use Rattle.refusal.specs.Answer.{Answer, number_in, ground_of, answer_value}
 use Rattle.tag.specs.Table.{places_of}
 use Rattle.read.specs.declared.Span.{Span}
 use Rattle.read.specs.Reading.{answer, after}
 use Rattle.drawing.specs.Answer as Drawing
 use Rattle.drawing.specs.Answer.{most_exponent}
 use Rattle.drawing.specs.Finite.{FinitePath}
-use Rattle.clips.specs.Clip.{clip_of}
+use Rattle.clips.specs.Clip.{parts_of}
 
 -- `hannuvel_ground`, `hannuvel_extra` and `hannuvel_value` of include/hannuvel.h: answer >> 48, (answer >> 32) & 0xFFFF, answer & 0xFFFFFFFF
 abbrev pub word_ground : ℕ → ℕ
@@ -31,8 +28,8 @@ pub record Unpacks (w g e v : ℕ) : Type 0 where
 
 -- What a call's number w says: the number and the place of the ground that the checks found; without one the extra e and the value v.
 abbrev pub Says : ℕ → Checked → ℕ → ℕ → Type 0
-Says w Good e v = Unpacks w 0 e v
-Says w (Bad r) e v = Unpacks w (number_of r) 0 (place_of r)
+Says w (Ok _) e v = Unpacks w 0 e v
+Says w (Err r) e v = Unpacks w (number_of r) 0 (place_of r)
 
 -- the same of a call that fills a table: how many records, spans or commands it wrote; for a ground its place or count
 abbrev pub SaysAnswer : ℕ → Answer → Type 0
@@ -52,4 +49,4 @@ pub record DrawingCall (s : List ℕ) (exponent : ℕ) (t : List ℕ) (r : ℕ) 
 
 -- what the call on a clip argument says: the offset at which the rest begins, and the scale
 abbrev pub ClipCall : List ℕ → ℕ → Type 0
-ClipCall s r = let c = clip_of s in Says r c.checked c.from c.scale
+ClipCall s r = let c = parts_of s in Says r (text_ground s) c.from c.scale

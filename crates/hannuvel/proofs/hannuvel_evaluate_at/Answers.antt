@@ -1,4 +1,3 @@
-use mathlib.Core.Path.{refl, sym, ◌∙◌}
 use mir.Syntax.{w32}
 use mir.ValLaws.{to_z-of_z}
 use Rattle.evaluate.proofs.Depth.{evaluated-stored}
@@ -6,12 +5,12 @@ use Rattle.evaluate.proofs.Opacity.{opacity_word}
 use Rattle.hannuvel.proofs.Unpacked.{evaluated_says}
 use Rattle.hannuvel.proofs.hannuvel_evaluate_at.Goals as goal
 
-pub returns-in-Bad : goal.returns-in-Bad
-returns-in-Bad c =
+pub returns : goal.returns
+returns c =
     let k = rw (to_z-of_z w32 c.args.t c.ranges.t, to_z-of_z w32 c.args.duration c.ranges.duration) at c.write_at.ensures in
-    record { answered = evaluated_says c.args.table.now c.args.t c.args.duration (sym c.in-Bad.is ∙ k.ground) c.packed_refusal.ensures; state = k.state; stored = evaluated-stored c.args.table.now c.args.t c.args.duration; opacity = opacity_word c.args.table.now c.args.t c.args.duration _ k.state }
-
-pub returns-in-Good : goal.returns-in-Good
-returns-in-Good c =
-    let k = rw (to_z-of_z w32 c.args.t c.ranges.t, to_z-of_z w32 c.args.duration c.ranges.duration) at c.write_at.ensures in
-    record { answered = evaluated_says c.args.table.now c.args.t c.args.duration (sym c.in-Good.is ∙ k.ground) refl; state = k.state; stored = evaluated-stored c.args.table.now c.args.t c.args.duration; opacity = opacity_word c.args.table.now c.args.t c.args.duration _ k.state }
+    record {
+      answered = evaluated_says c.args.table.now c.args.t c.args.duration k.ground c.packed.ensures;
+      state = k.state;
+      stored = evaluated-stored c.args.table.now c.args.t c.args.duration;
+      opacity = opacity_word c.args.table.now c.args.t c.args.duration _ k.state;
+    }

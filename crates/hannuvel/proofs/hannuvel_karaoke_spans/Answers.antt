@@ -6,4 +6,4 @@ use Rattle.hannuvel.proofs.hannuvel_karaoke_spans.Goals as goal
 pub returns : goal.returns
 returns c =
     let a = c.write_spans.ensures in
-    record { answered = spans_say _ _ (rw (← a.answer) c.packed_answer.ensures); spans = a.words; contiguous = contiguous _; stored = spans-stored _ _ }
+    record { answered = spans_say _ _ (rw (← a.answer) c.packed.ensures); spans = a.words; contiguous = contiguous _; stored = spans-stored _ _ }

@@ -5,6 +5,5 @@ use Rattle.hannuvel.proofs.hannuvel_next_mark.Goals as goal
 
 pub returns : goal.returns
 returns c =
-    let a = c.packed_marked.ensures in
     let e = rw (to_z-of_z w32 c.args.t c.ranges.t, to_z-of_z w32 c.args.duration c.ranges.duration) at c.next_mark.ensures in
-    marking c.args.table.now c.args.t c.args.duration e.value a.0 a.1 e.exact
+    marking c.args.table.now c.args.t c.args.duration e.value c.packed.ensures ? e.exact

@@ -5,4 +5,4 @@ use Rattle.hannuvel.proofs.hannuvel_parse_drawing.Goals as goal
 pub returns : goal.returns
 returns c =
     let a = c.parse_drawing.ensures in
-    record { answered = drawing_says _ _ _ (rw (← a.drawing) c.packed_answer.ensures); path = a.path; finite = finite-drawing _ _ }
+    record { answered = drawing_says _ _ _ (rw (← a.drawing) c.packed.ensures); path = a.path; finite = finite-drawing _ _ }

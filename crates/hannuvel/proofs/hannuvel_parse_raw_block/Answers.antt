@@ -5,4 +5,4 @@ use Rattle.hannuvel.proofs.hannuvel_parse_raw_block.Goals as goal
 pub returns : goal.returns
 returns c =
     let a = c.parse_raw_block.ensures.answered in
-    record { answered = reading_says _ _ _ (braces_in _) (rw (← a.reading) c.packed_answer.ensures); table = a.table }
+    record { answered = reading_says _ _ _ (braces_in _) (rw (← a.reading) c.packed.ensures); table = a.table }
