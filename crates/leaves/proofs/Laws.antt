@@ -1,7 +1,7 @@
--- What a list leaf answers and leaves, case by case.
+-- What a list leaf answers and leaves, case by case; std's test of a float.
 use mathlib.Core.Path.{◌≡◌, refl, ap, subst, ◌∙◌}
 use mathlib.Core.List.{List}
-use mathlib.Core.Bool.{Bool}
+use mathlib.Core.Bool.{Bool, true, false}
 use Prim.Native.Nat.{ℕ, suc, ◌+◌, ◌≤◌, ◌<◌}
 use native.Mathlib.Numerals.{add-one}
 use native.Mathlib.Omega.{arith}
@@ -10,7 +10,9 @@ use lib.Seq.{paste, paste-suc}
 use borrow.Author.Tests.{le-leb, lt-leb}
 use Rattle.lists.specs.Inner.{items_to, numbers_of}
 use Rattle.lists.specs.declared.Numbers.{Numbers}
-use Rattle.leaves.specs.Leaves.{leaf, packed_list, packed_place, list_leaf, laid, list_words}
+use lib.Ieee.{Float, nan, inf, fin, lt}
+use Rattle.std.specs.Float.{float_is_finite}
+use Rattle.leaves.specs.Leaves.{leaf, packed_list, packed_place, list_leaf, laid, list_words, finite}
 
 -- one word after another
 pub lay_step : (o w : List ℕ) (i : ℕ) → i < length o → i < length w → set (paste o 0 w i) i (get_or w i 0) ≡ paste o 0 w (i + 1)
@@ -38,3 +40,11 @@ module _ (whole : Bool) (s out : List ℕ) where
       answer,
       rw (le-leb (length s) 12288 h, le-leb 8 (length out) k) (g ∙ ap (λ (p : ℕ). laid out n.words p) f ∙ ap (λ (x : Numbers). laid out x.words (packed_place x.too_long)) q),
     )
+
+-- std's test of a float
+pub finite_is : (x : Float) → float_is_finite x ≡ finite x
+unfolding float_is_finite lt
+finite_is nan = refl
+finite_is (inf true) = refl
+finite_is (inf false) = refl
+finite_is (fin s m e) = refl

@@ -1,5 +1,5 @@
 -- What the leaf calls answer, packed into words. Remainders keep a packed word whole: of a text that is read, every place and every count is below them.
-use Rattle.std.specs.Prelude.{List, Bool, true, false, ℕ, ◌+◌, ◌-◌, ◌*◌, ◌%◌, ◌^◌, length, set, leb, ℤ, Float}
+use Rattle.std.specs.Prelude.{List, Bool, true, false, ℕ, ◌+◌, ◌-◌, ◌*◌, ◌%◌, ◌^◌, length, set, leb, ℤ, Float, Option, Some, None}
 use Rattle.std.proofs.Math.Seq.{paste}
 use Rattle.std.specs.Float.{inf, binary32}
 use Rattle.std.specs.Float.Ieee.{of_bits, to_bits, lt, le}
@@ -8,11 +8,8 @@ use Rattle.numeral.specs.Numeral.{i32_at, hex_at, f32_at, word_of_i32, word_of_f
 use Rattle.numeral.specs.declared.Numeral.{Numeral}
 use Rattle.numeral.specs.declared.Numeral.TheVariants.{No, TooLong, Word}
 use Rattle.colour.specs.Colour.{alpha_at, colour_at}
-use Rattle.colour.specs.declared.Colour.{Colour}
-use Rattle.colour.specs.declared.Colour.TheVariants as colour
+use Rattle.colour.specs.declared.Rgb.{Rgb}
 use Rattle.lists.specs.Inner.{items_to, numbers_of}
-use Rattle.lists.specs.declared.Found.{Found}
-use Rattle.lists.specs.declared.Found.TheVariants.{Nowhere, At}
 use Rattle.float.specs.Float.{zero, in_reach_lem, to_word}
 use Rattle.root.specs.Root.{sqrt}
 use Rattle.power.specs.Power.{power}
@@ -27,10 +24,15 @@ packed No = 0
 packed (TooLong p) = 2 * 2 ^ 32 + p % 2 ^ 32
 packed (Word w) = 2 ^ 32 + w
 
+-- a number in hexadecimal, which is never too long
+abbrev pub packed_word : Option ℕ → ℕ
+packed_word None = 0
+packed_word (Some w) = 2 ^ 32 + w
+
 -- a colour: 0 none, 1 with the bytes of red, green and blue below
-abbrev pub packed_colour : Colour → ℕ
-packed_colour colour.No = 0
-packed_colour (colour.Rgb r g b) = 2 ^ 32 + r * 65536 + g * 256 + b
+abbrev pub packed_colour : Option Rgb → ℕ
+packed_colour None = 0
+packed_colour (Some c) = 2 ^ 32 + c.red * 65536 + c.green * 256 + c.blue
 
 abbrev pub numeral_leaf : List ℕ → ℕ → ℕ → ℕ
 numeral_leaf s p q = packed (word_of_f32 (f32_at s p q))
@@ -39,10 +41,10 @@ abbrev pub i32_leaf : List ℕ → ℕ → ℕ → ℕ
 i32_leaf s p q = packed (word_of_i32 (i32_at s p q))
 
 abbrev pub hex_leaf : List ℕ → ℕ → ℕ → ℕ
-hex_leaf s p q = packed (hex_at s p q)
+hex_leaf s p q = packed_word (hex_at s p q)
 
 abbrev pub alpha_leaf : List ℕ → ℕ → ℕ → ℕ
-alpha_leaf s p q = packed (alpha_at s p q)
+alpha_leaf s p q = packed_word (alpha_at s p q)
 
 abbrev pub colour_leaf : List ℕ → ℕ → ℕ → ℕ
 colour_leaf s p q = packed_colour (colour_at s p q)
@@ -67,9 +69,9 @@ list_leaf whole s p q =
     packed_list n.all n.count
 
 -- 0, or 1 and the place of the first part that is too long
-abbrev pub packed_place : Found → ℕ
-packed_place Nowhere = 0
-packed_place (At p) = p % (2 ^ 32 - 1) + 1
+abbrev pub packed_place : Option ℕ → ℕ
+packed_place None = 0
+packed_place (Some p) = p % (2 ^ 32 - 1) + 1
 
 -- eight words in front: the words of the first seven parts, and the place
 abbrev pub laid : List ℕ → List ℕ → ℕ → List ℕ

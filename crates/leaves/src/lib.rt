@@ -6,7 +6,9 @@ ghost use Rattle.std.specs.Float.{binary32};
 ghost use Rattle.std.specs.Float.Ieee.{of_int, to_signed, to_unsigned};
 ghost use Rattle.scan.specs.Scan.{pick};
 ghost use Rattle.float.specs.Float.{max_zero, clamp, lerp, to_radians, in_reach_lem, round_away, round_byte, of_word};
-ghost use Rattle.leaves.specs.Leaves.{leaf, packed as packed_of, packed_colour, numeral_leaf, i32_leaf, hex_leaf, alpha_leaf, colour_leaf, trim_leaf, closing_leaf, packed_list, packed_place, list_leaf, laid, list_words, of, to, rooted as is_rooted, finite as is_finite, root_leaf, power_leaf, whole_leaf};
+ghost use Rattle.leaves.specs.Leaves.{leaf, packed as packed_of, packed_word as packed_word_of, packed_colour, numeral_leaf, i32_leaf, hex_leaf, alpha_leaf, colour_leaf, trim_leaf, closing_leaf, packed_list, packed_place, list_leaf, laid, list_words, of, to, rooted as is_rooted, root_leaf, power_leaf, whole_leaf};
+
+// Each leaf of a text asks for its length itself: a function that took the rest as a closure would want clauses at each closure.
 
 // A number: 0 none, 1 << 32 and its word, 2 << 32 and the place of one that is too long.
 fn packed(n: numeral::Numeral) -> u64
@@ -15,8 +17,15 @@ fn packed(n: numeral::Numeral) -> u64
     match n {
         numeral::Numeral::No => 0,
         numeral::Numeral::TooLong(p) => 8589934592 + (p % 4294967296) as u64,
-        numeral::Numeral::Word(w) => 4294967296 + w as u64,
+        numeral::Numeral::Word(w) => 4294967296 + u64::from(w),
     }
+}
+
+// A number in hexadecimal: 0 none, 1 << 32 and its word.
+fn packed_word(n: Option<u32>) -> u64
+    ensures { result ≡ packed_word_of n }
+{
+    n.map_or(0, |w| 4294967296 + u64::from(w))
 }
 
 pub fn hannuvel_leaf_numeral(text: &[u8]) -> u64
@@ -46,7 +55,7 @@ pub fn hannuvel_leaf_hexadecimal(text: &[u8]) -> u64
     if n > 12288 {
         return 0;
     }
-    packed(numeral::hex_at(text, 0, n))
+    packed_word(numeral::hex_at(text, 0, n))
 }
 
 pub fn hannuvel_leaf_alpha(text: &[u8]) -> u64
@@ -56,16 +65,18 @@ pub fn hannuvel_leaf_alpha(text: &[u8]) -> u64
     if n > 12288 {
         return 0;
     }
-    packed(colour::alpha_at(text, 0, n))
+    packed_word(colour::alpha_at(text, 0, n))
 }
 
 // A colour: 0 none, 1 << 32 and r, g, b in the bytes below.
-fn packed_colour(c: colour::Colour) -> u64
+fn packed_colour(c: Option<colour::Rgb>) -> u64
     ensures { result ≡ packed_colour c }
 {
     match c {
-        colour::Colour::No => 0,
-        colour::Colour::Rgb(r, g, b) => 4294967296 + r as u64 * 65536 + g as u64 * 256 + b as u64,
+        None => 0,
+        Some(c) => {
+            4294967296 + u64::from(c.red) * 65536 + u64::from(c.green) * 256 + u64::from(c.blue)
+        }
     }
 }
 
@@ -112,12 +123,12 @@ fn packed_list(all: bool, count: usize) -> u64
 }
 
 // 0, or 1 and the place of the first part that is too long.
-fn packed_place(f: lists::Found) -> u32
-    ensures { result ≡ packed_place f }
+fn packed_place(place: Option<usize>) -> u32
+    ensures { result ≡ packed_place place }
 {
-    match f {
-        lists::Found::Nowhere => 0,
-        lists::Found::At(p) => (p % 4294967295) as u32 + 1,
+    match place {
+        None => 0,
+        Some(p) => (p % 4294967295) as u32 + 1,
     }
 }
 
@@ -126,10 +137,8 @@ fn lay(words: [u32; 7], place: u32, out: &mut [u32])
     requires { 8 ≤ length out.old }
     ensures { out.new ≡ laid out.old words place }
 {
-    let mut i = 0;
-    while i < 7 {
+    for i in 0..7 {
         out[i] = words[i];
-        i += 1;
     }
     out[7] = place;
 }
@@ -143,11 +152,8 @@ fn list(text: &[u8], whole: bool, out: &mut [u32]) -> u64
         return 0;
     }
     let l = lists::numbers_at(text, whole, 0, n);
-    let words = l.words;
-    let too_long = l.too_long;
     if out.len() >= 8 {
-        lay(words, packed_place(too_long), out);
-        return packed_list(l.all, l.count);
+        lay(l.words, packed_place(l.too_long), out);
     }
     packed_list(l.all, l.count)
 }
@@ -172,21 +178,7 @@ pub fn hannuvel_leaf_ints(text: &[u8], out: &mut [u32]) -> u64
 fn rooted(x: f32) -> bool
     ensures { result ≡ is_rooted x }
 {
-    if x >= 0.0 {
-        x < f32::from_bits(0x7F800000)
-    } else {
-        false
-    }
-}
-
-fn finite(x: f32) -> bool
-    ensures { result ≡ is_finite x }
-{
-    if x > f32::from_bits(0xFF800000) {
-        x < f32::from_bits(0x7F800000)
-    } else {
-        false
-    }
+    x >= 0.0 && x < f32::INFINITY
 }
 
 pub fn hannuvel_leaf_root(a: u32) -> u32
@@ -199,15 +191,14 @@ pub fn hannuvel_leaf_root(a: u32) -> u32
     0x7FC00000
 }
 
+#[tactic(auto, using(crate::proofs::Laws::finite_is))]
 pub fn hannuvel_leaf_power(x: u32, a: u32) -> u32
     ensures { result ≡ power_leaf (of x) (of a) }
 {
     let base = float::f32_of_word(x);
     let exponent = float::f32_of_word(a);
-    if rooted(base) {
-        if finite(exponent) {
-            return float::word_of_f32(power::power_of(base, exponent));
-        }
+    if rooted(base) && exponent.is_finite() {
+        return float::word_of_f32(power::power_of(base, exponent));
     }
     0x7FC00000
 }
@@ -265,13 +256,13 @@ pub fn hannuvel_leaf_cut(x: u32) -> u32
 pub fn hannuvel_leaf_cut_byte(x: u32) -> u32
     ensures { result ≡ to_unsigned 8 (of x) }
 {
-    float::cut_byte(float::f32_of_word(x)) as u32
+    u32::from(float::cut_byte(float::f32_of_word(x)))
 }
 
 pub fn hannuvel_leaf_round_byte(x: u32) -> u32
     ensures { result ≡ round_byte (of x) }
 {
-    float::round_byte(float::f32_of_word(x)) as u32
+    u32::from(float::round_byte(float::f32_of_word(x)))
 }
 
 pub fn hannuvel_leaf_nearest_i32(w: u32) -> u32
@@ -289,5 +280,5 @@ pub fn hannuvel_leaf_nearest_u32(w: u32) -> u32
 pub fn hannuvel_leaf_in_reach(w: u32) -> u32
     ensures { result ≡ pick (in_reach_lem (of w)) 1 0 }
 {
-    if float::in_reach(w) { 1 } else { 0 }
+    u32::from(float::in_reach(w))
 }

@@ -1,4 +1,6 @@
+use mathlib.Core.Path.{◌∙◌}
 use Rattle.leaves.proofs.Laws.{listed-long, listed-few, listed-laid}
+use Rattle.leaves.proofs.list.Goals.{then-out-ge8, else-out-ge8}
 use Rattle.leaves.proofs.list.Goals as goal
 
 pub returns-then-n-gt12288 : goal.returns-then-n-gt12288
@@ -7,14 +9,11 @@ returns-then-n-gt12288 c =
     let told = listed-long a.whole a.text.now a.out.now c.if-n-gt12288.true in
     record { value = told.0; out_after = told.1 }
 
-pub returns-then-out-ge8 : goal.returns-then-out-ge8
-returns-then-out-ge8 c =
-    let a = c.args in
-    let told = listed-laid a.whole a.text.now a.out.now c.numbers_at-l.result c.packed_list.result c.if-n-gt12288.false c.numbers_at-l.ensures c.packed_list.ensures c.packed_place.result c.lay.new.out c.if-out-ge8.true c.packed_place.ensures c.lay.ensures in
-    record { value = told.0; out_after = told.1 }
-
 pub returns : goal.returns
 returns c =
     let a = c.args in
-    let told = listed-few a.whole a.text.now a.out.now c.numbers_at-l.result c.packed_list-2.result c.if-n-gt12288.false c.numbers_at-l.ensures c.packed_list-2.ensures c.if-out-ge8.false in
-    record { value = told.0; out_after = told.1 }
+    let n = c.numbers_at-l in
+    elim c.if-out-ge8.branch [
+      | then-out-ge8 w ↦ let told = listed-laid a.whole a.text.now a.out.now n.result c.packed_list.result c.if-n-gt12288.false n.ensures c.packed_list.ensures w.packed_place.result c.if-out-ge8.out w.if-out-ge8.true w.packed_place.ensures (w.out-is ∙ w.lay.ensures) in record { value = told.0; out_after = told.1 }
+      | else-out-ge8 w ↦ let told = listed-few a.whole a.text.now a.out.now n.result c.packed_list.result c.if-n-gt12288.false n.ensures c.packed_list.ensures w.if-out-ge8.false in record { value = told.0; out_after = w.out-is ∙ told.1 }
+    ]
