@@ -35,16 +35,16 @@ fn continues(mode: Mode, b: u8) -> bool
 
 // A move to the point behind k; nothing where there is none. The place from which the drawing goes on.
 fn moves_to(text: &[u8], closes: bool, k: usize, scale: f32, stroke: &mut Stroke<'_>) -> usize
-    requires { (k ≤ length text.now) × (stroke.old.path.count < 65000) }
+    requires { (k ≤ length text.now) × (stroke.old.count < 65000) }
     ensures { Turns text.now stroke.old (moves_to closes scale stroke.old.pen (tokens_from text.now k)) k stroke.new result }
 {
     let Some((p, next)) = read_point(text, k, scale) else {
         return k;
     };
     if closes && stroke.pen.opened {
-        stroke.path.push(PathCommand::Close);
+        stroke.draw(PathCommand::Close);
     }
-    stroke.path.push(PathCommand::MoveTo(p));
+    stroke.draw(PathCommand::MoveTo(p));
     stroke.pen = Pen {
         cur: p,
         opened: false,
@@ -55,7 +55,7 @@ fn moves_to(text: &[u8], closes: bool, k: usize, scale: f32, stroke: &mut Stroke
 
 // What a command does; its tokens begin at k.
 fn command_turn(text: &[u8], c: Command, k: usize, scale: f32, stroke: &mut Stroke<'_>) -> usize
-    requires { (k ≤ length text.now) × (stroke.old.path.count < 65000) }
+    requires { (k ≤ length text.now) × (stroke.old.count < 65000) }
     ensures { Turns text.now stroke.old (command_turn c scale stroke.old.pen (tokens_from text.now k)) k stroke.new result }
 {
     match c {
@@ -65,7 +65,7 @@ fn command_turn(text: &[u8], c: Command, k: usize, scale: f32, stroke: &mut Stro
         Command::Cubic => stroke.pen.mode = Mode::Cubics,
         Command::Basis => stroke.pen.mode = Mode::Spline(Ctrl::One(stroke.pen.cur)),
         Command::Close => {
-            stroke.path.push(PathCommand::Close);
+            stroke.draw(PathCommand::Close);
             stroke.pen.opened = false;
             stroke.pen.mode = Mode::Idle;
         }
@@ -76,7 +76,7 @@ fn command_turn(text: &[u8], c: Command, k: usize, scale: f32, stroke: &mut Stro
 
 // A letter that ends at k.
 pub fn letter_turn(text: &[u8], b: u8, k: usize, scale: f32, stroke: &mut Stroke<'_>) -> usize
-    requires { (k ≤ length text.now) × (stroke.old.path.count < 65000) }
+    requires { (k ≤ length text.now) × (stroke.old.count < 65000) }
     ensures { Turns text.now stroke.old (letter_turn b scale stroke.old.pen (tokens_from text.now k)) k stroke.new result }
 {
     if continues(stroke.pen.mode, b) {

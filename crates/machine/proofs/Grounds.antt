@@ -8,8 +8,8 @@ use Rattle.scan.proofs.Laws.{picked}
 use Rattle.refusal.specs.Answer.{first_ground}
 use Rattle.refusal.specs.declared.Refusal.{Refusal}
 use Rattle.refusal.specs.declared.Refusal.TheVariants.{NumeralTooLong}
-use Rattle.refusal.specs.declared.Checked.{Checked}
-use Rattle.refusal.specs.declared.Checked.TheVariants.{Good, Bad}
+use Rattle.std.specs.Prelude.{Ok, Err}
+use Rattle.refusal.specs.Refusal.{Checked}
 use Rattle.tokens.specs.declared.Token.{Token}
 use Rattle.tokens.specs.declared.Token.TheVariants.{Letter, Number, Refused, Other}
 use Rattle.pen.specs.declared.Command.{Command}
@@ -106,8 +106,8 @@ module _ (k : Float) (pen : Pen) (ts : List Token) where
       (rw q (tail_splits ts))
     where
       either_way : (r : Checked) → tokens_ground ts ≡ first_ground r (tokens_ground (until_letter ts)) → tokens_ground ts ≡ first_ground r (tokens_ground ts)
-      either_way Good e = refl
-      either_way (Bad x) e = e
+      either_way (Ok _) e = refl
+      either_way (Err x) e = e
 
   pub number-ground : (x : Float) → tokens_ground (Number x ∷ ts) ≡ tokens_ground (turn_of (Number x) k pen (Number x ∷ ts) ts).rest
   unfolding tokens_ground
@@ -117,20 +117,14 @@ module _ (k : Float) (pen : Pen) (ts : List Token) where
   unfolding tokens_ground
   other-ground = sym (bare_ground k pen ts (tokens_ground ts) refl pen.mode (Other ∷ ts) refl)
 
-  pub refused-ground : (p : ℕ) → tokens_ground (Refused p ∷ ts) ≡ Bad (NumeralTooLong p)
+  pub refused-ground : (p : ℕ) → tokens_ground (Refused p ∷ ts) ≡ Err (NumeralTooLong p)
   unfolding tokens_ground
   refused-ground p = refl
 
 -- a turn that passes over no refused numeral, and one that stops at one
-module _ {s : List ℕ} {i j : ℕ} {t : Token} (k : Float) (pen : Pen) (r : Checked) (n : NextIs s i t j)
-    (f : Passes t (from s j) r) where
-  pub ground-turned : (next : ℕ) → r ≡ Good → from s next ≡ (turn_of t k pen (from s i) (from s j)).rest → tokens_ground (from s i) ≡ tokens_ground (from s next)
-  ground-turned next e q =
-      let rest = (turn_of t k pen (t ∷ from s j) (from s j)).rest in
-      ap tokens_ground n.is ∙ f k pen ∙ ap (λ (x : Checked). first_ground x (tokens_ground rest)) e
-      ∙ sym (ap tokens_ground (q ∙ ap (λ (l : List Token). (turn_of t k pen l (from s j)).rest) n.is))
+module _ {s : List ℕ} {i j : ℕ} {t : Token} (k : Float) (pen : Pen) (n : NextIs s i t j) where
+  pub ground-turned : (next : ℕ) → Passes t (from s j) (Ok tt) → from s next ≡ (turn_of t k pen (t ∷ from s j) (from s j)).rest → tokens_ground (from s i) ≡ tokens_ground (from s next)
+  ground-turned next f q = ap tokens_ground n.is ∙ f k pen ∙ sym (ap tokens_ground q)
 
-  pub ground_stopped : {x : Refusal} → r ≡ Bad x → tokens_ground (from s i) ≡ r
-  ground_stopped e =
-      let rest = (turn_of t k pen (t ∷ from s j) (from s j)).rest in
-      ap tokens_ground n.is ∙ f k pen ∙ ap (λ (x : Checked). first_ground x (tokens_ground rest)) e ∙ sym e
+  pub ground_stopped : {x : Refusal} → Passes t (from s j) (Err x) → tokens_ground (from s i) ≡ Err x
+  ground_stopped f = ap tokens_ground n.is ∙ f k pen

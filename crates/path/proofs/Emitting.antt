@@ -11,8 +11,7 @@ use Rattle.rows.specs.Rows.{laid_rows}
 use Rattle.rows.proofs.Laws as rows
 use Rattle.rows.proofs.Laws.{rest-is, rest_back}
 use Rattle.path.specs.Path.{command_width, command_words, laid_path}
-use Rattle.path.specs.declared.PathWriter.{PathWriter}
-use Rattle.path.specs.Inner.{Emits, Writes}
+use Rattle.path.specs.Inner.{Emits}
 
 wide : (c : PathCommand) → length (command_words c) ≡ command_width
 wide (MoveTo p) = refl
@@ -58,11 +57,3 @@ pub emits-all : {t u : List ℕ} {m : ℕ} {cs : List PathCommand} → Emits t 0
 emits-all {t} {u} {m} {cs} e =
     let z : min (command_width * 0) (length t) ≡ 0 = omega arith in
     e.path ∙ rw z
-
--- ---- by a writer
-
-pub writes_none : (v : PathWriter) → Writes v [] v
-writes_none v = record { same = refl; emits = emits_none v.words.now v.count }
-
-pub writes-join : {u v w : PathWriter} {a b : List PathCommand} → Writes u a v → Writes v b w → Writes u (a ++ b) w
-writes-join e f = record { same = f.same ∙ e.same; emits = emits-join e.emits f.emits }

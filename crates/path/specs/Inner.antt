@@ -1,22 +1,9 @@
 -- What the inner functions say, in the code's words: nothing here is a promise to a caller.
 use Rattle.std.specs.Prelude.{◌≡◌, List, ◌++◌, ℕ, ◌+◌, ◌*◌, min, length, take, drop}
-use Rattle.std.specs.Borrow.{MutBor}
 use Rattle.path.specs.declared.PathCommand.{PathCommand}
-use Rattle.path.specs.declared.PathWriter.{PathWriter}
 use Rattle.path.specs.Path.{command_width, laid_path}
 
 -- t with commands written behind its first n places, as many as there is room for, is u; then there are m
 pub record Emits (t : List ℕ) (n : ℕ) (cs : List PathCommand) (m : ℕ) (u : List ℕ) : Type 0 where
   pub count : m ≡ n + length cs
   pub path : u ≡ take (min (command_width * n) (length t)) t ++ laid_path (drop (min (command_width * n) (length t)) t) cs
-
--- no command so far, in the lent words t
-pub record Begins (t : MutBor (List ℕ)) (w : PathWriter) : Type 0 where
-  pub same : w.words.ghost_name ≡ t.ghost_name
-  pub words : w.words.now ≡ t.now
-  pub count : w.count ≡ 0
-
--- commands written behind those of v, into the same lent words
-pub record Writes (v : PathWriter) (cs : List PathCommand) (w : PathWriter) : Type 0 where
-  pub same : w.words.ghost_name ≡ v.words.ghost_name
-  pub emits : Emits v.words.now v.count cs w.count w.words.now

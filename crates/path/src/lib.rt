@@ -1,10 +1,10 @@
 // Points, the commands of a path, and writing them into a lent table.
 #![tactic(auto)]
 
-ghost use Rattle.std.specs.Prelude.{◌≡◌, [], ◌∷◌, ◌<◌};
+ghost use Rattle.std.specs.Prelude.{◌≡◌, ◌+◌, [], ◌∷◌};
 ghost use Rattle.rows.specs.Rows.{bits};
 ghost use Rattle.path.specs.Path.{command_words};
-ghost use Rattle.path.specs.Inner.{Begins, Writes};
+ghost use Rattle.path.specs.Inner.{Emits};
 
 #[derive(Clone, Copy, Drop)]
 pub struct Point {
@@ -54,33 +54,10 @@ impl PathCommand {
     }
 }
 
-// A path that is being written: its words, which are lent, and how many commands there are so far, with those for which there was no room.
-#[derive(Drop)]
-pub struct PathWriter<'a> {
-    words: &'a mut [u32],
-    count: usize,
-}
-
-impl<'a> PathWriter<'a> {
-    pub fn new(words: &'a mut [u32]) -> PathWriter<'a>
-        ensures { Begins words.entry result }
-    {
-        PathWriter { words, count: 0 }
-    }
-
-    pub fn count(&self) -> usize
-        ensures { result ≡ self.now.count }
-    {
-        self.count
-    }
-
-    // Writes a command behind those that there are, where there is room for it. There are far fewer than 65,536: a text has at most 12,288 bytes, and each gives at most two.
-    pub fn push(&mut self, command: PathCommand)
-        requires { self.old.count < 65536 }
-        ensures { Writes self.old (command ∷ []) self.new }
-    {
-        let start = self.words.len().min(8 * self.count);
-        rows::put(&mut self.words[start..], command.words());
-        self.count += 1;
-    }
+// Writes a command at a place, counted in commands, where there is room for it.
+pub fn write(path: &mut [u32], place: usize, command: PathCommand)
+    ensures { Emits path.old place (command ∷ []) (place + 1) path.new }
+{
+    let start = path.len().min(place.saturating_mul(8));
+    rows::put(&mut path[start..], command.words());
 }

@@ -1,12 +1,11 @@
 // The pen, what a letter can ask of it, and splines that draw as their control points come.
 #![tactic(auto)]
 
-ghost use Rattle.std.specs.Prelude.{◌≡◌, ◌<◌};
-ghost use Rattle.path.specs.Inner.{Begins};
-ghost use Rattle.pen.specs.Drawing.{bez as bez_of, span_gives, spline_point, settled as settled_pen, start};
-ghost use Rattle.pen.specs.Inner.{Strokes};
+ghost use Rattle.std.specs.Prelude.{◌≡◌, [], ◌∷◌, ◌<◌};
+ghost use Rattle.pen.specs.Drawing.{bez as bez_of, gives, span_gives, spline_point, settled as settled_pen};
+ghost use Rattle.pen.specs.Inner.{Begins, Strokes};
 
-use path::{PathCommand, PathWriter, Point};
+use path::{PathCommand, Point};
 
 // A spline's control points: one, two or three that have drawn nothing yet, or the last two behind a span.
 #[derive(Clone, Copy, Drop)]
@@ -72,18 +71,18 @@ fn bez(a: Point, wa: f32, b: Point, wb: f32, c: Point, wc: f32) -> Point
     }
 }
 
-// A pen, and the path that it draws.
+// A pen and the path that it draws: the words that are lent for it, and how many commands there are so far, with those for which there was no room.
 #[derive(Drop)]
 pub struct Stroke<'a> {
     pub pen: Pen,
-    pub path: PathWriter<'a>,
+    words: &'a mut [u32],
+    count: usize,
 }
 
 impl<'a> Stroke<'a> {
     // A pen at the origin, which has drawn nothing.
     pub fn new(words: &'a mut [u32]) -> Stroke<'a>
-        ensures pen { result.pen ≡ start }
-        ensures path { Begins words.entry result.path }
+        ensures { Begins words.entry result }
     {
         Stroke {
             pen: Pen {
@@ -91,19 +90,36 @@ impl<'a> Stroke<'a> {
                 opened: false,
                 mode: Mode::Idle,
             },
-            path: PathWriter::new(words),
+            words,
+            count: 0,
         }
+    }
+
+    // How many commands there are so far.
+    pub fn count(&self) -> usize
+        ensures { result ≡ self.now.count }
+    {
+        self.count
+    }
+
+    // Draws a command. There are far fewer than 65,536: a text has at most 12,288 bytes, and each gives at most two.
+    pub fn draw(&mut self, command: PathCommand)
+        requires { self.old.count < 65536 }
+        ensures { Strokes self.old (gives self.old.pen (command ∷ [])) self.new }
+    {
+        path::write(self.words, self.count, command);
+        self.count += 1;
     }
 
     // A spline's next span, between b and c.
     fn span(&mut self, b: Point, c: Point, p: Point)
-        requires { self.old.path.count < 65536 }
+        requires { self.old.count < 65536 }
         ensures { Strokes self.old (span_gives b c p) self.new }
     {
         let q = bez(b, 4.0, c, 2.0, c, 0.0);
         let r = bez(b, 2.0, c, 4.0, c, 0.0);
         let end = bez(b, 1.0, c, 4.0, p, 1.0);
-        self.path.push(PathCommand::CubicTo(q, r, end));
+        self.draw(PathCommand::CubicTo(q, r, end));
         self.pen = Pen {
             cur: end,
             opened: true,
@@ -113,15 +129,14 @@ impl<'a> Stroke<'a> {
 
     // A spline's next control point.
     pub fn spline_point(&mut self, ctrl: Ctrl, p: Point)
-        requires { self.old.path.count < 65000 }
+        requires { self.old.count < 65000 }
         ensures { Strokes self.old (spline_point self.old.pen.cur self.old.pen.opened ctrl p) self.new }
     {
         match ctrl {
             Ctrl::One(a) => self.pen.mode = Mode::Spline(Ctrl::Two(a, p)),
             Ctrl::Two(a, b) => self.pen.mode = Mode::Spline(Ctrl::Three(a, b, p)),
             Ctrl::Three(a, b, c) => {
-                self.path
-                    .push(PathCommand::LineTo(bez(a, 1.0, b, 4.0, c, 1.0)));
+                self.draw(PathCommand::LineTo(bez(a, 1.0, b, 4.0, c, 1.0)));
                 self.span(b, c, p);
             }
             Ctrl::Span(b, c) => self.span(b, c, p),

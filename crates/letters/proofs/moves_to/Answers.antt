@@ -1,6 +1,5 @@
 use Rattle.std.proofs.Common.{rules, arith}
-use Rattle.path.proofs.Emitting.{writes_none}
-use Rattle.letters.proofs.Turning.{turn_none, moves_some}
+use Rattle.letters.proofs.Turning.{turn_none, first-closed, first-inside, first-left, moves_some}
 use Rattle.letters.proofs.moves_to.Goals as goal
 use Rattle.letters.proofs.moves_to.Goals.{then-closes+then-stroke, else-closes, else-closes-via-then-closes+else-stroke, else-closes-via-else-closes}
 
@@ -11,10 +10,10 @@ pub returns : goal.returns
 returns c =
     moves_some _ _ c.in-Some.ensures
     (elim c.if-closes.branch [
-      | then-closes+then-stroke w ↦ rw (w.stroke-is, w.if-closes.true, w.if-stroke.true) w.push.ensures
+      | then-closes+then-stroke w ↦ first-closed w.if-closes.true w.if-stroke.true w.stroke-is w.draw.ensures.path
       | else-closes w ↦ elim w.else-closes.branch [
-        | else-closes-via-then-closes+else-stroke w' ↦ rw (w.stroke-is, w'.if-closes.true, w'.if-stroke.false) (writes_none _)
-        | else-closes-via-else-closes w' ↦ rw (w.stroke-is, w'.if-closes.false) (writes_none _)
+        | else-closes-via-then-closes+else-stroke w' ↦ first-inside w'.if-closes.true w'.if-stroke.false w.stroke-is
+        | else-closes-via-else-closes w' ↦ first-left _ w'.if-closes.false w.stroke-is
       ]
     ])
-    c.push-2.ensures
+    c.draw-2.ensures

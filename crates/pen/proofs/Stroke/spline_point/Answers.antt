@@ -10,4 +10,4 @@ returns-in-Two c = rw c.in-Two.is (strokes-none _ _)
 
 pub returns-in-Three : goal.returns-in-Three
 unfolding of_bits
-returns-in-Three c = rw c.in-Three.is (strokes-three _ _ _ _ c.bez.ensures c.push.ensures c.span.ensures)
+returns-in-Three c = rw c.in-Three.is (strokes-three _ _ _ _ c.bez.ensures c.draw.ensures c.span.ensures)
