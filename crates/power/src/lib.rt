@@ -73,8 +73,7 @@ fn fraction(x: f32, v: u32, whole: f32) -> f32
     let mut r = x;
     let mut d: u32 = 8;
     while v % (1 << d) > 0 {
-        let m = root::digits_of(r);
-        if m > 0 {
+        if let Some(m) = root::digits_of(r) {
             return near_one(m, v, d, p);
         }
         d -= 1;

@@ -7,18 +7,6 @@ use Rattle.root.proofs.lengthened.Goals.{At-loop-m}
 long : (c : At-loop-m) → 149 < 24 + c.loop-m.t
 long c = room c.loop-m.m c.loop-m.t _ c.loop-m.invariant.0 c.loop-m.invariant.1 c.loop-m.invariant.2
 
-pub loop-m-init : goal.loop-m-init
-loop-m-init c = (refl, omega arith, omega arith, omega arith)
-
-pub overflow_mul-m : goal.overflow_mul-m
-overflow_mul-m c = omega arith
-
-pub overflow_sub-t : goal.overflow_sub-t
-overflow_sub-t c = omega (arith, long c.before)
-
-pub loop-m-smaller : goal.loop-m-smaller
-loop-m-smaller c = omega (arith, long c.before)
-
 pub loop-m-preserved : goal.loop-m-preserved
 loop-m-preserved c =
     let l = c.before in
@@ -26,12 +14,6 @@ loop-m-preserved c =
 
 pub overflow_sub-result : goal.overflow_sub-result
 overflow_sub-result c = omega (arith, long c.before)
-
-pub overflow_mul-result : goal.overflow_mul-result
-overflow_mul-result c = omega (arith, long c.before)
-
-pub overflow_add-result : goal.overflow_add-result
-overflow_add-result c = omega (arith, long c.before)
 
 pub returns : goal.returns
 returns c =
