@@ -40,7 +40,7 @@ fn item(text: &[u8], whole: bool, p: usize, q: usize) -> numeral::Numeral
     }
 }
 
-// The numbers between commas from p to e, as `parse_int_list` and `parse_float_list` read them.
+// The numbers between commas from p to e, as `parse_int_list` and `parse_float_list` read them. C gives `whole` as a value.
 #[tactic(auto, using(crate::proofs::Laws::listing_start))]
 pub fn numbers_at(text: &[u8], whole: bool, p: usize, e: usize) -> Numbers
     requires { (p ≤ e) × (e ≤ length text.now) }

@@ -7,10 +7,10 @@ use native.Mathlib.Omega.{arith}
 use lib.Pow.{pow-add}
 use lib.Dec.{ltb, lit<}
 use lib.ListN.{get_or}
-use lib.IntN.{ℤ, pos, negsuc, neg_ℤ}
-use lib.Ieee.{Float, binary32, to_bits}
+use lib.IntN.{ℤ, pos, negsuc}
+use lib.Ieee.{binary32, to_bits}
 use lib.Ieee.Scale.{round_same}
-use borrow.Author.Tests.{le-leb, lt-leb}
+use borrow.Author.Tests.{le-leb}
 use Rattle.scan.specs.Scan.{past}
 use Rattle.numeral.specs.declared.Decimal.{Decimal}
 use Rattle.numeral.specs.declared.Numeral.TheVariants.{Word}
@@ -47,19 +47,6 @@ unfolding float_of
 unshifted s a b d =
     let z : d.end - d.fraction - 0 ≡ d.end - d.fraction = omega arith in
     rw (no-zeros (digits_of s d) (d.end - d.fraction), z)
-
--- a shift to the left by n, 0 too
-pub left_before : (w n : ℕ) → before w (neg_ℤ (pos n)) ≡ w - n
-left_before w zero = omega arith
-left_before w (suc n) = refl
-
-pub left_behind : (f n : ℕ) → behind f (neg_ℤ (pos n)) ≡ f + n
-left_behind f zero = omega arith
-left_behind f (suc n) = refl
-
-pub left_zeros : (f n : ℕ) → zeros f (neg_ℤ (pos n)) ≡ 0
-left_zeros f zero = omega arith
-left_zeros f (suc n) = refl
 
 -- ---- both definitions say the same number
 
@@ -130,18 +117,10 @@ module _ (s : List ℕ) (a b i w f digits : ℕ) (c : Counted s a b i w f digits
     counted-digits l = lt_of_le_of_lt (le_trans (le_of_eq (sym (mul-one (digits_of s d)))) (mul-le-mul_left (digits_of s d) (one-le-pow (zeros f x) 10 (lit< tt)))) (counted-small l)
 
   module _ (x g : ℕ) (ex : x ≡ past is_e s i b) (eg : g ≡ past is_sign s x b) where
-    -- the places, whatever the number
-    module _ (y : ℤ → Float) where
-      pub exponent-long : 2 < b - g → F32.too_long_lem a ≡ with_exponent s a b d y
-      exponent-long h = rw (← c.end, ← ex, ← eg, lt-leb _ _ h)
-
-    -- and, if its digits are few, behind its minus, and their capped value
+    -- if its digits are few, behind its minus, and their capped value
     module _ (m n : ℕ) (em : m ≡ past is_minus s x b) (en : n ≡ min most (value 10 s (b - g) g 0)) (h : b - g ≤ 2) where
       exact : n ≡ value 10 s (b - g) g 0
       exact = let v = value_two s (b - g) g h in en ∙ under _ (omega arith)
-
-      pub exponent_small : n < 200
-      exponent_small = rw exact (value_two s (b - g) g h)
 
       pub exponent-is : signed (ltb x m) n ≡ exponent_of s d.end b
       exponent-is = rw (← c.end, ← ex, ← eg, ← em, exact)

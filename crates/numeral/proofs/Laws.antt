@@ -13,14 +13,14 @@ use Rattle.std.specs.Prelude.{Option, Some, None}
 use lib.IntN.{ℤ, pos, neg_ℤ}
 use lib.Ieee.{Float}
 use lib.Pow.{pow-add}
-use borrow.Author.Tests.{eq-eqb, ne_eqb, lt-ltb, le-ltb, le-leb, lt-leb, ltb-true}
+use borrow.Author.Tests.{eq-eqb, ne_eqb, le-ltb, le-leb, lt-leb, ltb-true}
 use Rattle.scan.specs.Scan.{pick, digit_of, digit, span, span_to, past}
 use Rattle.scan.proofs.Laws.{le_or_lt, more, none, span-low, digit-below, digit-decimal, digit-between, digit_upper, digit_middle, digit-lower, digit-above, no-decimal}
 use Rattle.float.specs.Float.{to_word}
 use Rattle.numeral.specs.declared.Numeral.{Numeral}
 use Rattle.numeral.specs.declared.Numeral.TheVariants.{No, Word}
 use Rattle.numeral.specs.declared.Decimal.{Decimal}
-use Rattle.numeral.specs.Numeral.{is_digit, is_sign, is_minus, is_plus, value, most, whole_number, word_of_i32, I32, i32_of, up_to, hex_at, split_at, F32, digits_of, before, behind, float_of, limited, exponent_start, exponent_of, with_exponent, ends_at, f32_of}
+use Rattle.numeral.specs.Numeral.{is_digit, is_sign, is_minus, value, most, whole_number, word_of_i32, I32, i32_of, up_to, split_at, F32, digits_of, before, behind, float_of, limited, exponent_start, exponent_of, with_exponent, ends_at, f32_of}
 
 -- a digit's value, or 16
 pub digit-most : (b : ℕ) → digit_of b ≤ 16
@@ -96,10 +96,6 @@ module _ (radix : ℕ) (s : List ℕ) where
           let z : j - i ≡ 0 = omega arith in
           rw (value-end i j a (omega arith), z, pow-zero) (omega arith)
 
--- one more digit behind a capped value fits 64 bits
-pub step_fits : (a radix d : ℕ) → a ≤ most → radix ≤ 16 → d ≤ 16 → a * radix + d < 2 ^ 64
-step_fits a radix d h k l = lt_of_le_of_lt (add-le-add (mul-le-mul h k) l) (lit< tt)
-
 -- a limit below the cap
 pub up_to-capped : (m w l : ℕ) → l < m → up_to (min m w) l ≡ up_to w l
 up_to-capped m w l h =
@@ -121,11 +117,6 @@ uncapped m w v q h =
     let z : v ≡ m = q ∙ min-eq_left n in
     absurd (omega arith))
     (le_or_lt w m)
-
--- hexadecimal by its sign, at i behind a plus, and its size v, capped
-pub hex_is : (s : List ℕ) (a b i v : ℕ) → i ≡ past is_plus s a b → v ≡ min most (whole_number 16 s i b) → up_to v 4294967295 ≡ hex_at s a b
-unfolding hex_at
-hex_is s a b i v p q = rw (q, p) (up_to-capped most (whole_number 16 s (past is_plus s a b) b) 4294967295 (lit< tt))
 
 -- the word of a number, where there is one
 abbrev pub of_word : Option ℕ → Numeral
@@ -247,9 +238,6 @@ no_digit_below b h = rw (← digit-below b h)
 
 pub no_digit_above : (b : ℕ) → 57 < b → is_digit b ≡ false
 no_digit_above b h = le-ltb (digit_of b) 10 (no-decimal b h)
-
-pub digit_between_is : (b : ℕ) → 48 ≤ b → b ≤ 57 → is_digit b ≡ true
-digit_between_is b h k = rw (← digit-decimal b h k) (lt-ltb (b - 48) 10 (omega arith))
 
 -- one digit more of a run
 pub run_below : (start a d n : ℕ) → a < (start + 1) * 10 ^ n → d ≤ 9 → a * 10 + d < (start + 1) * 10 ^ (n + 1)

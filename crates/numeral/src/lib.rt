@@ -63,7 +63,7 @@ fn value(text: &[u8], radix: u8, from: usize, to: usize, start: u64) -> u64
     a
 }
 
-// The whole number that fills the text between two places; 10^18 where it is larger or there is none.
+// The whole number that fills the text between two places; 10^18 where it is larger or there is none: one limit rules both out.
 #[tactic(auto, unfolding(crate::specs::Numeral::whole_number))]
 pub fn whole_number(text: &[u8], radix: u8, from: usize, to: usize) -> u64
     requires { (from ≤ to) × (to ≤ length text.now) × (0 < radix) × (radix ≤ 16) }
@@ -86,7 +86,7 @@ pub fn i32_at(text: &[u8], p: usize, q: usize) -> Numeral
     let i = scan::past(text, scan::Either(b'+', b'-'), a, b);
     let v = whole_number(text, 10, i, b);
     if scan::past(text, scan::Is(b'-'), a, b) == a {
-        return up_to(v, 2147483647).map_or(Numeral::No, |w| Numeral::Word(w));
+        return up_to(v, 2147483647).map_or(Numeral::No, Numeral::Word);
     }
     match up_to(v, 2147483648) {
         Some(w) => Numeral::Word(w.wrapping_neg()),

@@ -208,33 +208,6 @@ module _ (b : ℕ) where
 
 -- scans by blocks
 module _ (p : ℕ → Bool) (s : List ℕ) where
-  pub passed_none : (i e : ℕ) → i ≤ e → Passed p s i e i
-  passed_none i e h = record { low = le_refl i; high = h; all = λ j a b. absurd (omega arith) }
-
-  passed-more : {i e j : ℕ} (r : ℕ) → Passed p s i e j → r ≡ j + 1 → r ≤ e → p (get_or s j 0) ≡ true → Passed p s i e r
-  passed-more {i} {e} {j} r f q h t =
-      record {
-        low = omega (arith, f.low);
-        high = h;
-        all = λ k a b. ⊎_elim (λ (l : j ≤ k). let z : k ≡ j = omega arith in rw z t) (λ (l : k < j). f.all k a l) (le_or_lt j k);
-      }
-
-  -- a block of four bytes from j on, tested one after the other
-  module _ {i e j : ℕ} (f : Passed p s i e j) (room : 4 ≤ e - j) (t : p (get_or s j 0) ≡ true) where
-    pub passed_1 : Passed p s i e (j + 1)
-    passed_1 = passed-more (j + 1) f refl (omega arith) t
-
-    module _ (u : p (get_or s (j + 1) 0) ≡ true) where
-      pub passed_2 : Passed p s i e (j + 2)
-      passed_2 = passed-more (j + 2) passed_1 (omega arith) (omega arith) u
-
-      module _ (v : p (get_or s (j + 2) 0) ≡ true) where
-        pub passed_3 : Passed p s i e (j + 3)
-        passed_3 = passed-more (j + 3) passed_2 (omega arith) (omega arith) v
-
-        pub passed_4 : p (get_or s (j + 3) 0) ≡ true → Passed p s i e (j + 4)
-        passed_4 w = passed-more (j + 4) passed_3 (omega arith) (omega arith) w
-
   span-over : (n i e : ℕ) → i + n ≤ e → ((j : ℕ) → i ≤ j → j < i + n → p (get_or s j 0) ≡ true) → span_to p s i e ≡ span_to p s (i + n) e
   span-over zero i e h f = let z : i ≡ i + 0 = omega arith in ap (λ (j : ℕ). span_to p s j e) z
   span-over (suc n) i e h f =

@@ -16,7 +16,7 @@ pub fn lower(b: u8) -> u8
     b.to_ascii_lowercase()
 }
 
-// The value of a hexadecimal digit of either case, and 16 for any other byte.
+// The value of a hexadecimal digit of either case, and 16 for any other byte: one comparison tests for a digit of any radix.
 pub fn digit_of(b: u8) -> u8
     ensures { result ≡ digit_of b }
 {
@@ -174,17 +174,14 @@ pub fn clear(text: &[u8], x: u8, from: usize, to: usize) -> usize
         if text[i] <= x {
             return i;
         }
-        let j = i + 1;
-        if text[j] <= x {
-            return j;
+        if text[i + 1] <= x {
+            return i + 1;
         }
-        let k = i + 2;
-        if text[k] <= x {
-            return k;
+        if text[i + 2] <= x {
+            return i + 2;
         }
-        let l = i + 3;
-        if text[l] <= x {
-            return l;
+        if text[i + 3] <= x {
+            return i + 3;
         }
         i += 4;
     }

@@ -11,26 +11,18 @@ use lib.ListN.{get_or, length, take, drop}
 use Rattle.std.specs.Prelude.{count_by, cond}
 use Rattle.std.proofs.Common.{drop-cons, add-one}
 use Rattle.std.proofs.lemmas.List.Sums.{sum_by-cons}
-use borrow.Author.Tests.{eq-eqb, ne_eqb}
-use Rattle.scan.proofs.Laws.{more, none, le_or_lt, picked, span-low, passed-span}
+use borrow.Author.Tests.{eq-eqb}
+use Rattle.scan.proofs.Laws.{more, le_or_lt, picked, span-low, passed-span}
 use Rattle.scan.specs.Scan.{pick, span_to, back, back_to}
 use Rattle.numeral.specs.Numeral.{is_digit}
-use Rattle.survey.specs.Survey.{slashes, slashes_to, Ten, Exponent, ends_field, Unplain, ten, exponent}
+use Rattle.survey.specs.Survey.{slashes, slashes_to, Ten, Unplain, ten, exponent}
 
 -- ---- backslashes, one byte more
 
 module _ (s : List ℕ) (i e : ℕ) where
-  pub slashes-end : e ≤ i → slashes_to s i e ≡ 0
-  unfolding slashes
-  slashes-end h = rw (none i e h)
-
   pub slashes-one : i < e → get_or s i 0 ≡ 92 → slashes_to s i e ≡ slashes_to s (i + 1) e + 1
   unfolding slashes
   slashes-one h q = rw (more i e h, eq-eqb (get_or s i 0) 92 q)
-
-  pub slashes-none : i < e → ¬ (get_or s i 0 ≡ 92) → slashes_to s i e ≡ slashes_to s (i + 1) e
-  unfolding slashes
-  slashes-none h q = rw (more i e h, ne_eqb (get_or s i 0) 92 q)
 
 pub slashes-counted : (s : List ℕ) (n i : ℕ) → i + n ≤ length s → count_by (λ b. eqb b 92) (take n (drop i s)) ≡ slashes s n i
 unfolding slashes
@@ -75,12 +67,6 @@ pub ten_more : (s : List ℕ) (i k e : ℕ) → i + 9 ≤ k → (is_digit (get_o
     → (j : ℕ) → i ≤ j → j < k + 1 → j + 10 ≤ e → Ten s j → ⊥
 ten_more s i k e l look before j a b d t =
     ⊎_elim (λ (h : k ≤ j + 9). ten-around s i k e j a (omega arith) (omega arith) d t (look (t k (omega arith) (omega arith)))) (λ (h : j + 9 < k). before j a h d t) (le_or_lt k (j + 9))
-
--- ---- the whole look
-
-pub plain-is : (s : List ℕ) (i e : ℕ) → ((j : ℕ) → i ≤ j → j + 1 < e → Exponent s j → ends_field s (j + 1) e ≡ true → ⊥) → ((j : ℕ) → i ≤ j → j + 10 ≤ e → Ten s j → ⊥) → Unplain s e i e → ⊥
-plain-is s i e x t (ten j a b h) = t j a b h
-plain-is s i e x t (exponent j a b h k) = x j a b h k
 
 -- ---- a wider text
 
