@@ -17,8 +17,8 @@ use Rattle.scan.specs.Scan.{pick}
 use Rattle.scan.proofs.Laws.{picked}
 use Rattle.float.specs.Float.{zero as +0, one, reach, clamp, lerp, of_word}
 use Rattle.float.proofs.Unit.{Unit, Share, unit-zero, unit-one, unit-mul, unit-lerp, lerp-one, unit-rest, unit-quotient, unit-clamp, share_of, share_clamp, in_unit, unit_word}
-use Rattle.refusal.specs.declared.Checked.{Checked}
-use Rattle.refusal.specs.declared.Checked.TheVariants.{Good, Bad}
+use Rattle.refusal.specs.Refusal.{Checked}
+use Rattle.std.specs.Prelude.{Ok, Err}
 use Rattle.tag.specs.declared.Record.{Record}
 use Rattle.tag.specs.Tag.{Times, absent, times}
 use Rattle.tag.specs.WellFormed.{All, all, more, t_kind, holds, records_of}
@@ -226,8 +226,8 @@ unfolding evaluated_to identity
 opaque ws t dur = go (call_ground ws t dur) refl
   where
     go : (c : Checked) → call_ground ws t dur ≡ c → Opacity ws (opacity_of (evaluated_or c (evaluate_at t dur (tags_of ws))))
-    go (Bad r) e = record { unit = in_unit one unit-one; plain = λ a. refl }
-    go Good e = within ws t dur (good-fine ws t dur e)
+    go (Err r) e = record { unit = in_unit one unit-one; plain = λ a. refl }
+    go (Ok _) e = within ws t dur (good-fine ws t dur e)
 
 -- ---- of the words
 

@@ -1,10 +1,10 @@
 -- What the calls answer: 01, Evaluation, and grounds 5 and 6.
-use Rattle.std.specs.Prelude.{◌≡◌, List, ℕ, ◌≤◌, ℤ, Float}
+use Rattle.std.specs.Prelude.{◌≡◌, List, ℕ, ◌≤◌, ℤ, Float, Result, Ok, Err}
 use Rattle.std.specs.Float.{binary32}
 use Rattle.std.specs.Float.Ieee.{of_bits}
 use Rattle.refusal.specs.Answer.{Stands}
-use Rattle.refusal.specs.declared.Checked.{Checked}
-use Rattle.refusal.specs.declared.Checked.TheVariants.{Good, Bad}
+use Rattle.refusal.specs.Refusal.{Checked}
+use Rattle.refusal.specs.declared.Refusal.{Refusal}
 use Rattle.float.specs.Float.{one, InUnit}
 use Rattle.tag.specs.declared.Record.{Record}
 use Rattle.tag.specs.Tag.{most_depth}
@@ -15,11 +15,14 @@ use Rattle.state.specs.declared.RenderState.{RenderState}
 use Rattle.state.specs.State.{identity}
 use Rattle.state.specs.Apply.{evaluate_at}
 use Rattle.words.specs.Words.{state_words}
-use Rattle.evaluate.specs.declared.Evaluated.{Evaluated}
+
+-- the state, or the refusal
+abbrev pub Evaluated : Type 0
+Evaluated = Result RenderState Refusal
 
 abbrev pub evaluated_or : Checked → RenderState → Evaluated
-evaluated_or (Bad r) st = Evaluated.Refused r
-evaluated_or Good st = Evaluated.State st
+evaluated_or (Err r) st = Err r
+evaluated_or (Ok _) st = Ok st
 
 -- the state of the tags that the table stands for, unless the table or a time is at fault, as a controller that allows T nested at most d deep has it
 unfoldable pub evaluated_to : ℕ → List ℕ → ℤ → ℤ → Evaluated
@@ -32,12 +35,12 @@ evaluated ws t dur = evaluated_to most_depth ws t dur
 
 -- the answer's ground, and the state, `identity` beside a refusal
 abbrev pub ground_of : Evaluated → Checked
-ground_of (Evaluated.State st) = Good
-ground_of (Evaluated.Refused r) = Bad r
+ground_of (Ok st) = Ok tt
+ground_of (Err r) = Err r
 
 abbrev pub state_of : Evaluated → RenderState
-state_of (Evaluated.State st) = st
-state_of (Evaluated.Refused r) = identity
+state_of (Ok st) = st
+state_of (Err r) = identity
 
 -- what stands for the answer to a table, an instant and a duration
 abbrev pub StateStands : List ℕ → ℤ → ℤ → Evaluated → Type 0
@@ -67,8 +70,8 @@ pub record Opacity (ws : List ℕ) (x : Float) : Type 0 where
 
 -- the words of the state; on a refusal every old word
 abbrev pub state_after : Evaluated → List ℕ → List ℕ
-state_after (Evaluated.State st) v = state_words st
-state_after (Evaluated.Refused r) v = v
+state_after (Ok st) v = state_words st
+state_after (Err r) v = v
 
 -- 02, N8, of the first of these words: the bits of an opacity, as a number at most those of 1, and those of 1 where no \fad or \fade stands
 pub record OpacityWord (ws : List ℕ) (w : ℕ) : Type 0 where
