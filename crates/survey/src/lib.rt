@@ -8,6 +8,9 @@ ghost use Rattle.survey.specs.Survey.{slashes_to, is_exponent, is_stop, ends_fie
 
 use scan::Class;
 
+// 01, Numerals: more digits on a side of its point, and a numeral is too long.
+const MOST_DIGITS: usize = 9;
+
 // Whether the byte b is an e and a, before it, a digit or a point.
 #[tactic(auto, unfolding(crate::specs::Survey::is_exponent))]
 fn is_exponent(a: u8, b: u8) -> bool
@@ -71,7 +74,7 @@ fn no_ten(text: &[u8], from: usize, to: usize) -> bool
     ensures { result ≡ true → (j : ℕ) → from ≤ j → j + 10 ≤ to → Ten text.now j → ⊥ }
 {
     for k in (from + 9..to).step_by(10) {
-        if scan::Digit(10).has(text[k]) && run_around(text, from, k, to) > 9 {
+        if scan::Digit(10).has(text[k]) && run_around(text, from, k, to) > MOST_DIGITS {
             return false;
         }
     }
