@@ -1,14 +1,13 @@
 -- The karaoke records of a table that are in no T, from one record on.
 use mathlib.Core.Path.{◌≡◌, refl, sym, ap, ◌∙◌}
 use mathlib.Core.List.{List, [], ◌∷◌}
-use mathlib.Core.Logic.{⊎_elim}
 use Prim.Native.Nat.{ℕ, zero, suc, ◌+◌, ◌≤◌, ◌<◌}
 use native.Mathlib.Omega.{arith}
 use lib.Dec.{eqb}
 use lib.ListN.{length, drop, drop_of_length-le}
 use lib.Seq.{drop-drop}
 use borrow.Author.Tests.{eq-eqb, ne_eqb}
-use Rattle.scan.proofs.Laws.{le_or_lt, picked}
+use Rattle.scan.proofs.Laws.{picked}
 use Rattle.tag.specs.declared.Record.{Record}
 use Rattle.tag.specs.Tag.{cs}
 use Rattle.tag.specs.Table.{places_of}
@@ -16,9 +15,8 @@ use Rattle.tag.specs.WellFormed.{records_of, t_kind, holds}
 use Rattle.table.specs.Inner.{record_in}
 use Rattle.table.proofs.Slices.{length-records, drop-records}
 use Rattle.karaoke.specs.declared.Ms.{Ms}
-use Rattle.karaoke.specs.declared.Walk.{Walk}
 use Rattle.karaoke.specs.Karaoke.{in_ms, plus, Syllable, span_from, spans_from}
-use Rattle.karaoke.specs.Inner.{karaoke_kind, beat, beats, beats_from, Found, spans_left}
+use Rattle.karaoke.specs.Inner.{karaoke_kind, beat, beats, beats_from, Found}
 
 -- what is inside a T is passed over
 pub beats-skip : (k : ℕ) (l : List Record) → beats k l ≡ beats 0 (drop k l)
@@ -89,18 +87,12 @@ unfolding spans_from
 length-spans m [] = refl
 length-spans m (s ∷ l) = ap suc (length-spans (plus m (in_ms s.lasts)) l)
 
-module _ (ws : List ℕ) where
-  -- where syllables are left, there is a record
-  pub there : (from at : ℕ) → beats_from ws at ≡ beats_from ws from → 0 < length (beats_from ws from) → at < places_of ws
-  there from at e h =
-      ⊎_elim (λ (g : places_of ws ≤ at). let z = ap length (sym e ∙ from_end ws at g) in absurd (omega arith)) (λ (g : at < places_of ws). g) (le_or_lt (places_of ws) at)
+-- where there are no syllables there are no spans
+pub over : (m : Ms) (ws : List ℕ) (at : ℕ) → beats_from ws at ≡ [] → spans_from m (beats_from ws at) ≡ []
+unfolding spans_from
+over m ws at e = ap (spans_from m) e
 
-  module _ (w : Walk) where
-    pub left : 0 < length (spans_left ws w) → 0 < length (beats_from ws w.next)
-    unfolding spans_left
-    left h = omega (arith, length-spans w.span.end_ms (beats_from ws w.next))
-
-    -- the span of the record found comes next
-    pub steps : (at : ℕ) → Found ws w.next at → (r : Record) → r ≡ record_in ws at → spans_left ws w ≡ span_from w.span.end_ms (beat r) ∷ spans_from (plus w.span.end_ms (in_ms (cs r.w2))) (beats_from ws (at + 1))
-    unfolding spans_left spans_from
-    steps at f r i = ap (spans_from w.span.end_ms) (sym f.same ∙ from_karaoke ws at f.there f.is) ∙ rw i
+-- the span of the record found comes next
+pub steps : (m : Ms) (ws : List ℕ) (from at : ℕ) → Found ws from at → spans_from m (beats_from ws from) ≡ span_from m (beat (record_in ws at)) ∷ spans_from (plus m (in_ms (cs (record_in ws at).w2))) (beats_from ws (at + 1))
+unfolding spans_from
+steps m ws from at f = ap (spans_from m) (sym f.same ∙ from_karaoke ws at f.there f.is)

@@ -7,12 +7,10 @@ use native.Mathlib.Omega.{arith}
 use lib.Dec.{eqb}
 use lib.ListN.{length}
 use borrow.Author.Tests.{ne_eqb}
-use Rattle.refusal.specs.Refusal.{most_places}
-use Rattle.refusal.specs.declared.Checked.{Checked}
-use Rattle.refusal.specs.declared.Checked.TheVariants.{Good, Bad}
+use Rattle.refusal.specs.Refusal.{Checked, most_places}
+use Rattle.std.specs.Prelude.{Ok, Err}
 use Rattle.refusal.specs.declared.Refusal.{Refusal}
 use Rattle.refusal.specs.declared.Refusal.TheVariants.{TableMalformed}
-use Rattle.refusal.specs.declared.Answer.TheVariants.{Written, Refused}
 use Rattle.refusal.specs.Answer.{unless_bad}
 use Rattle.tag.specs.declared.Record.{Record}
 use Rattle.tag.specs.Tag.{most_depth}
@@ -53,7 +51,7 @@ module _ (ws : List ℕ) (end : ℕ) where
 
     -- of the kind k, asked whether it fits it
     module _ (k : ℕ) (q : r.kind ≡ k) {v : Bool} (s : v ≡ in_range (of_kind k r)) where
-      bad : v ≡ false → Bad (TableMalformed at) ≡ fault most_depth at (part ws at (end - at))
+      bad : v ≡ false → Err (TableMalformed at) ≡ fault most_depth at (part ws at (end - at))
       bad z = kind_bad ws most_depth at (end - at) room.1 room.0 r e k q v s z
 
       stands : v ≡ true → eqb k t_kind ≡ false → fault most_depth (at + 1) (part ws (at + 1) (end - (at + 1))) ≡ fault most_depth at (part ws at (end - at))
@@ -69,7 +67,7 @@ module _ (ws : List ℕ) (end : ℕ) where
     unfit q s z = sym (s ∙ ap (λ (k : ℕ). in_range (of_kind k r)) (sym q) ∙ ap in_range e) ∙ z
 
     -- one that a run does not pass
-    stuck : {next : ℕ} → Run ws end at next → next ≡ at → r.kind ≡ karaoke_kind → Bad (TableMalformed at) ≡ fault most_depth at (part ws at (end - at))
+    stuck : {next : ℕ} → Run ws end at next → next ≡ at → r.kind ≡ karaoke_kind → Err (TableMalformed at) ≡ fault most_depth at (part ws at (end - at))
     stuck u n q = let z = (rw n at u.stop) h (ap (λ (x : Record). x.kind) (sym e) ∙ q) in bad r.kind refl {v = false} (sym (ap in_range e ∙ z)) refl
 
     -- one that makes no span and holds no others
@@ -80,10 +78,10 @@ module _ (ws : List ℕ) (end : ℕ) where
 
     -- a T
     module _ (q : r.kind ≡ t_kind) {c : Checked} (f : c ≡ fault_of_t ws at (end - at - 1) r) where
-      t_bad : {b : Refusal} → c ≡ Bad b → Bad b ≡ fault most_depth at (part ws at (end - at))
+      t_bad : {b : Refusal} → c ≡ Err b → Err b ≡ fault most_depth at (part ws at (end - at))
       t_bad {b} y = top_bad ws at (end - at) room.1 room.0 r e q c f b y
 
-      around : c ≡ Good → Passed ws end at (at + (1 + holds r)) 0
+      around : c ≡ Ok tt → Passed ws end at (at + (1 + holds r)) 0
       around y =
           let a = top_past ws at (end - at) room.1 room.0 r e q c f y in
           let u : at + 1 + holds r ≡ at + (1 + holds r) = omega arith in
@@ -97,42 +95,42 @@ module _ {ws : List ℕ} {end : ℕ} (m : end ≡ min (places_of ws) most_places
   from_0 : fault most_depth at (part ws at (end - at)) ≡ fault most_depth 0 (part ws 0 end)
   from_0 = let z : end - 0 ≡ end = omega arith in rw z at p.ground
 
-  refused : {b : Refusal} → Bad b ≡ fault most_depth at (part ws at (end - at)) → Refused b ≡ counted ws
-  refused {b} y = ap (λ (c : Checked). unless_bad c (Written (length (beats_from ws 0)))) (table_found ws end (Bad b) m (y ∙ from_0))
+  refused : {b : Refusal} → Err b ≡ fault most_depth at (part ws at (end - at)) → Err b ≡ counted ws
+  refused {b} y = ap (λ (c : Checked). unless_bad c (Ok (length (beats_from ws 0)))) (table_found ws end (Err b) m (y ∙ from_0))
 
   -- one record more
   module _ (h : at < end) {r : Record} (e : r ≡ record_in ws at) where
     inside : Inside ws 0 end
     inside = omega (arith, m)
 
-    pub run_refused : {next : ℕ} → Run ws end at next → next ≡ at → r.kind ≡ karaoke_kind → Refused (TableMalformed at) ≡ counted ws
+    pub run_refused : {next : ℕ} → Run ws end at next → next ≡ at → r.kind ≡ karaoke_kind → Err (TableMalformed at) ≡ counted ws
     run_refused u n q = refused (stuck ws end at inside h e u n q)
 
     module _ {v : Bool} (s : v ≡ in_range r) where
-      pub other-refused : v ≡ false → Refused (TableMalformed at) ≡ counted ws
+      pub other-refused : v ≡ false → Err (TableMalformed at) ≡ counted ws
       other-refused z = refused (bad ws end at inside h e r.kind refl s z)
 
       pub other-next : Plain r.kind → v ≡ true → Passed ws end 0 (at + 1) n
       other-next q z = on p (other ws end at inside h e q s z)
 
     module _ (q : r.kind ≡ t_kind) {c : Checked} (f : c ≡ fault_of_t ws at (end - at - 1) r) where
-      pub t-refused : {b : Refusal} → c ≡ Bad b → Refused b ≡ counted ws
+      pub t-refused : {b : Refusal} → c ≡ Err b → Err b ≡ counted ws
       t-refused y = refused (t_bad ws end at inside h e q f y)
 
-      pub t-next : c ≡ Good → Passed ws end 0 (at + (1 + holds r)) n
+      pub t-next : c ≡ Ok tt → Passed ws end 0 (at + (1 + holds r)) n
       t-next y = on p (around ws end at inside h e q f y)
 
   -- behind the last
   module _ (h : end ≤ at) {c : Checked} (e : c ≡ excess ws) where
     ended : c ≡ table_ground ws
-    ended = let z : end - at ≡ 0 = omega arith in e ∙ table_found ws end Good m (sym (none_left ws most_depth at (end - at) z) ∙ from_0)
+    ended = let z : end - at ≡ 0 = omega arith in e ∙ table_found ws end (Ok tt) m (sym (none_left ws most_depth at (end - at) z) ∙ from_0)
 
-    pub end_refused : {b : Refusal} → c ≡ Bad b → Refused b ≡ counted ws
-    end_refused y = ap (λ (x : Checked). unless_bad x (Written (length (beats_from ws 0)))) (sym y ∙ ended)
+    pub end_refused : {b : Refusal} → c ≡ Err b → Err b ≡ counted ws
+    end_refused y = ap (λ (x : Checked). unless_bad x (Ok (length (beats_from ws 0)))) (sym y ∙ ended)
 
-    pub end-counted : c ≡ Good → Written n ≡ counted ws
+    pub end-counted : c ≡ Ok tt → Ok n ≡ counted ws
     end-counted y =
-        let g : Good ≡ table_ground ws = sym y ∙ ended in
+        let g : Ok tt ≡ table_ground ws = sym y ∙ ended in
         let l = ap length (from_end ws at (omega (arith, m, h, (ground-formed ws (sym g)).few, length-records ws))) in
         let k : n ≡ length (beats_from ws 0) = omega (arith, l, p.count) in
-        ap Written k ∙ ap (λ (x : Checked). unless_bad x (Written (length (beats_from ws 0)))) g
+        ap Ok k ∙ ap (λ (x : Checked). unless_bad x (Ok (length (beats_from ws 0)))) g

@@ -2,9 +2,8 @@
 use mathlib.Core.List.{List}
 use Prim.Native.Nat.{ℕ}
 use lib.ListN.{length}
-use Rattle.refusal.specs.declared.Checked.{Checked}
-use Rattle.refusal.specs.declared.Answer.{Answer}
-use Rattle.refusal.specs.Answer.{room_for, unless_bad, table_after}
+use Rattle.refusal.specs.Refusal.{Checked}
+use Rattle.refusal.specs.Answer.{Answer, room_for, unless_bad, table_after}
 use Rattle.tag.specs.Depth.{AtLessDepth}
 use Rattle.tag.proofs.Deeper.{stored, stored_by}
 use Rattle.karaoke.specs.Answer.{spans_of, answer_to, places_of, laid_spans, words_after_to, both_to, both_refused}

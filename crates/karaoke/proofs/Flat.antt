@@ -9,7 +9,7 @@ use lib.Dec.{eqb, leb}
 use lib.ListN.{length, get_or, drop, replicate, get_or-replicate, length-drop, get_or-map}
 use borrow.Author.Tests.{eqb-true, eqb-false, leb-true}
 use Rattle.scan.specs.Scan.{pick}
-use Rattle.refusal.specs.declared.Checked.TheVariants.{Good}
+use Rattle.std.specs.Prelude.{Ok}
 use Rattle.tag.specs.declared.Record.{Record}
 use Rattle.tag.specs.Tag.{AnimatedTag, Tags, none, and}
 use Rattle.tag.specs.Range.{rows, in_range}
@@ -19,7 +19,7 @@ use Rattle.tag.proofs.Tags.{fold_own}
 use Rattle.tag.proofs.Formed.{all_drop, ground-formed}
 use Rattle.karaoke.specs.Karaoke.{Syllable, syllable, syllables, karaoke_spans}
 use Rattle.karaoke.specs.Answer.{spans_of}
-use Rattle.karaoke.specs.Inner.{karaoke_kind, beat, beats, beats_from, begun, spans_left}
+use Rattle.karaoke.specs.Inner.{karaoke_kind, beat, beats, beats_from, all_spans}
 use Rattle.karaoke.proofs.Beats.{beats-none, beats-t, beats_karaoke, beats-other}
 
 -- ---- a record's own syllable
@@ -101,6 +101,6 @@ flat_in (suc n) (r ∷ l) h (more i a) =
     go inner rest behind false e a b = plain r l behind i (eqb-false r.kind t_kind e) b
 
 -- the spans of the tags that a well-formed table stands for are those of the walk over its records
-pub flat : (ws : List ℕ) → table_ground ws ≡ Good → spans_of ws ≡ spans_left ws begun
-unfolding karaoke_spans spans_left beats_from
+pub flat : (ws : List ℕ) → table_ground ws ≡ Ok tt → spans_of ws ≡ all_spans ws
+unfolding karaoke_spans beats_from
 flat ws g = rw (flat_in (length (records_of ws)) (records_of ws) (le_refl _) (ground-formed ws g).ranges)

@@ -12,13 +12,14 @@ use Rattle.scan.specs.Scan.{pick, either}
 use Rattle.scan.proofs.Laws.{picked}
 use Rattle.float.specs.Float.{zero, one, InUnit}
 use Rattle.float.proofs.Unit.{Unit, unit-zero, unit-one, in_unit}
-use Rattle.refusal.specs.declared.Checked.{Checked}
-use Rattle.refusal.specs.declared.Checked.TheVariants.{Good, Bad}
+use Rattle.std.specs.Prelude.{Ok, Err}
+use Rattle.std.specs.Result.{result_and}
+use Rattle.refusal.specs.Refusal.{Checked}
 use Rattle.state.specs.Mix.{quotient}
 use Rattle.ramp.proofs.Between.{way, unit-between}
 use Rattle.karaoke.specs.declared.KaraokeSpan.{KaraokeSpan}
 use Rattle.karaoke.specs.Karaoke.{most_ms}
-use Rattle.karaoke.specs.Progress.{whole, progress_in, instant_ground, progressed_or, progressed, progress_of}
+use Rattle.karaoke.specs.Progress.{whole, progress_in, instant_ground, progressed, progress_of}
 
 -- whatever the two ends and the instant
 unit_in : (start end : ℕ) (t : ℤ) → end ≤ most_ms → Unit (progress_in (pos start) (pos end) t)
@@ -35,9 +36,9 @@ pub progress_in-unit : (s : KaraokeSpan) (t : ℤ) → s.end_ms.0 ≤ most_ms �
 unfolding progressed
 progress_in-unit s t m = go (instant_ground t)
   where
-    go : (c : Checked) → InUnit (progress_of (progressed_or c (progress_in (whole s.start_ms) (whole s.end_ms) t)))
-    go Good = in_unit _ (unit_in s.start_ms.0 s.end_ms.0 t m)
-    go (Bad r) = in_unit zero unit-zero
+    go : (c : Checked) → InUnit (progress_of (result_and c (Ok (progress_in (whole s.start_ms) (whole s.end_ms) t))))
+    go (Ok _) = in_unit _ (unit_in s.start_ms.0 s.end_ms.0 t m)
+    go (Err r) = in_unit zero unit-zero
 
 -- ---- and an f32
 
@@ -51,6 +52,6 @@ progress_fits s t = go (instant_ground t)
     end : ℤ
     end = whole s.end_ms
 
-    go : (c : Checked) → T (fits binary32 (progress_of (progressed_or c (progress_in start end t))))
-    go Good = picked (λ x. T (fits binary32 x)) (le_z t start) zero _ tt (picked (λ x. T (fits binary32 x)) (either (le_z end t) (le_z end start)) one _ tt (div-fits binary32 (of_int binary32 (t -ℤ start)) (of_int binary32 (end -ℤ start))))
-    go (Bad r) = tt
+    go : (c : Checked) → T (fits binary32 (progress_of (result_and c (Ok (progress_in start end t)))))
+    go (Ok _) = picked (λ x. T (fits binary32 x)) (le_z t start) zero _ tt (picked (λ x. T (fits binary32 x)) (either (le_z end t) (le_z end start)) one _ tt (div-fits binary32 (of_int binary32 (t -ℤ start)) (of_int binary32 (end -ℤ start))))
+    go (Err r) = tt

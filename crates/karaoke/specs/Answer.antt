@@ -1,10 +1,8 @@
 -- What the call answers, and what the lent list holds afterwards: 01, Karaoke, and grounds 5 and 9.
-use Rattle.std.specs.Prelude.{◌≡◌, List, [], ◌∷◌, ◌++◌, ℕ, ◌/◌, length, drop}
+use Rattle.std.specs.Prelude.{◌≡◌, List, [], ◌∷◌, ◌++◌, ℕ, ◌/◌, length, drop, Ok, Err}
 use Rattle.rows.specs.Rows.{laid_rows}
 use Rattle.refusal.specs.declared.Refusal.{Refusal}
-use Rattle.refusal.specs.declared.Answer.{Answer}
-use Rattle.refusal.specs.declared.Answer.TheVariants.{Written, Refused}
-use Rattle.refusal.specs.Answer.{room_for, unless_bad, table_after}
+use Rattle.refusal.specs.Answer.{Answer, room_for, unless_bad, table_after}
 use Rattle.tag.specs.Table.{kind_word}
 use Rattle.tag.specs.Tag.{most_depth}
 use Rattle.tag.specs.WellFormed.{table_ground_to}
@@ -33,8 +31,8 @@ written new old = new ++ drop (length new) old
 
 -- on a refusal every place keeps what it held
 abbrev pub list_after : Answer → List KaraokeSpan → List KaraokeSpan → List KaraokeSpan
-list_after (Written n) new old = written new old
-list_after (Refused r) new old = old
+list_after (Ok n) new old = written new old
+list_after (Err r) new old = old
 
 -- the list afterwards
 unfoldable pub after : List ℕ → List KaraokeSpan → List KaraokeSpan
@@ -70,7 +68,7 @@ abbrev pub both_to : ℕ → List ℕ → List ℕ → Answer × List ℕ
 both_to d ws t = (answer_to d ws (places_of t), words_after_to d ws t)
 
 abbrev pub both_refused : List ℕ → Refusal → Answer × List ℕ
-both_refused t r = (Refused r, t)
+both_refused t r = (Err r, t)
 
 -- ---- what the two calls say
 

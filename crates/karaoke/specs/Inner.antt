@@ -1,11 +1,8 @@
 -- The spans of a table, record by record, in the code's words: nothing here is a promise to a caller.
-use Rattle.std.specs.Prelude.{◌≡◌, List, [], ◌∷◌, false, ℕ, zero, suc, ◌+◌, ◌-◌, ◌≤◌, ◌<◌, eqb, length, drop}
+use Rattle.std.specs.Prelude.{◌≡◌, List, [], ◌∷◌, false, ℕ, zero, suc, ◌+◌, ◌-◌, ◌≤◌, ◌<◌, eqb, length, drop, Option, MatchOption, Ok}
 use Rattle.scan.specs.Scan.{pick}
-use Rattle.refusal.specs.declared.Answer.{Answer}
-use Rattle.refusal.specs.declared.Answer.TheVariants.{Written, Refused}
-use Rattle.refusal.specs.Answer.{unless_bad}
+use Rattle.refusal.specs.Answer.{Answer, unless_bad}
 use Rattle.tag.specs.declared.Record.{Record}
-use Rattle.tag.specs.declared.KaraokeKind.TheVariants.{Fill}
 use Rattle.tag.specs.Tag.{cs, most_depth}
 use Rattle.tag.specs.Table.{places_of}
 use Rattle.tag.specs.Range.{in_range}
@@ -43,6 +40,10 @@ pub record Found (ws : List ℕ) (from at : ℕ) : Type 0 where
   pub there : at < places_of ws
   pub is : (record_in ws at).kind ≡ karaoke_kind
 
+-- it, or none where there are no syllables
+abbrev pub NextBeat : List ℕ → ℕ → Option ℕ → Type 0
+NextBeat ws from r = MatchOption r (beats_from ws from ≡ []) (Found ws from)
+
 -- ---- ground 5 and the syllables in one pass
 
 -- the kind of a record that holds no others and makes no span
@@ -63,20 +64,14 @@ pub record Run (ws : List ℕ) (end from at : ℕ) : Type 0 where
 
 -- ground 5, or how many syllables there are
 abbrev pub counted : List ℕ → Answer
-counted ws = unless_bad (table_ground ws) (Written (length (beats_from ws 0)))
+counted ws = unless_bad (table_ground ws) (Ok (length (beats_from ws 0)))
 
 -- ---- spans
 
--- the walk before the first span
-abbrev pub begun : Walk
-begun = record { span = record { kind = Fill; start_ms = ms 0; end_ms = ms 0 }; next = 0 }
+-- those of a table
+abbrev pub all_spans : List ℕ → List KaraokeSpan
+all_spans ws = spans_from (ms 0) (beats_from ws 0)
 
--- the spans behind the one that a walk has come to
-unfoldable pub spans_left : List ℕ → Walk → List KaraokeSpan
-unfolding beats_from spans_from
-spans_left ws w = spans_from w.span.end_ms (beats_from ws w.next)
-
--- how many were written
-abbrev pub written_in : Answer → ℕ
-written_in (Written n) = n
-written_in (Refused r) = 0
+-- those that the walk has still to give
+abbrev pub spans_left : Walk → List KaraokeSpan
+spans_left s = spans_from s.start_ms (beats_from s.table.now s.at)

@@ -1,23 +1,41 @@
 // Karaoke: the spans that the karaoke tags of a table make, and how far an instant is in one.
 #![tactic(auto)]
 
-ghost use Rattle.std.specs.Prelude.{◌≡◌, [], ◌∷◌, ◌++◌, ◌+◌, ◌≤◌, ◌<◌, length, take, drop};
+ghost use Rattle.std.specs.Prelude.{◌≡◌, [], ◌∷◌, ◌++◌, ◌+◌, ◌≤◌, length, take, drop};
+ghost use Rattle.std.specs.Iterator.{YieldsFirst, item_count};
 ghost use Rattle.float.specs.Float.{InUnit};
 ghost use Rattle.tag.specs.Decode.{beat_of};
-ghost use Rattle.tag.specs.Table.{kind_word};
 ghost use Rattle.tag.specs.Range.{in_range};
 ghost use Rattle.table.specs.Inner.{Inside};
-ghost use Rattle.karaoke.specs.Karaoke.{in_ms, plus as plus_ms};
+ghost use Rattle.karaoke.specs.Karaoke.{in_ms, plus};
 ghost use Rattle.karaoke.specs.Answer.{answer as answer_of, laid_spans, Answered, AnsweredWords};
 ghost use Rattle.karaoke.specs.Progress.{progress_in, progressed, whole, progress_of, ProgressStands};
-ghost use Rattle.karaoke.specs.Inner.{beats_from, Found, begun, spans_left, written_in, Plain, Run, counted};
+ghost use Rattle.karaoke.specs.Inner.{NextBeat, all_spans, spans_left, Plain, Run, counted};
 
-use refusal::{Answer, Checked, Refusal};
+use refusal::Refusal;
 use tag::{Cs, KaraokeKind, Record};
 
 // Milliseconds, in which spans count: never taken for centiseconds.
 #[derive(Clone, Copy, Drop)]
 pub struct Ms(pub u32);
+
+// At most the greatest.
+impl From<Cs> for Ms {
+    ghost from_gives = { λ c m. m ≡ in_ms c };
+
+    fn from(c: Cs) -> Ms {
+        Ms(c.0.saturating_mul(10))
+    }
+}
+
+impl Ms {
+    // The sum, at most the greatest.
+    pub fn saturating_add(self, other: Ms) -> Ms
+        ensures { result ≡ plus self other }
+    {
+        Ms(self.0.saturating_add(other.0))
+    }
+}
 
 // One syllable's time in a line.
 #[derive(Clone, Copy, Drop)]
@@ -27,113 +45,75 @@ pub struct KaraokeSpan {
     pub end_ms: Ms,
 }
 
-// What `progress` answers.
-#[derive(Clone, Copy, Drop)]
-pub enum Progressed {
-    At(f32),
-    Refused(Refusal),
-}
-
-// ---- centiseconds and milliseconds
-
-// Centiseconds as milliseconds, at most the greatest.
-fn in_ms(c: Cs) -> Ms
-    ensures { result ≡ in_ms c }
-{
-    let n = c.0;
-    if n <= 429496729 {
-        Ms(n * 10)
-    } else {
-        Ms(4294967295)
-    }
-}
-
-// The sum, at most the greatest.
-fn plus(a: Ms, b: Ms) -> Ms
-    ensures { result ≡ plus_ms a b }
-{
-    let m = a.0;
-    let n = b.0;
-    if n <= 4294967295 - m {
-        Ms(m + n)
-    } else {
-        Ms(4294967295)
-    }
-}
-
 // ---- the walk over the spans of a table
 
-// The span that a walk has come to, and the record behind its tag.
-#[derive(Clone, Copy, Drop)]
-pub struct Walk {
-    pub span: KaraokeSpan,
-    pub next: usize,
+// The spans from a record on, the first of which begins where the one before it ended.
+#[derive(Drop)]
+pub struct Walk<'a> {
+    table: &'a [u32],
+    at: usize,
+    start_ms: Ms,
 }
 
-// Before the first span.
-fn begin() -> Walk
-    ensures { result ≡ begun }
-{
-    Walk {
-        span: KaraokeSpan {
-            kind: KaraokeKind::Fill,
+impl<'a> Walk<'a> {
+    // All spans of a table.
+    pub fn of(table: &'a [u32]) -> Walk<'a>
+        ensures { spans_left result ≡ all_spans table.now }
+    {
+        Walk {
+            table,
+            at: 0,
             start_ms: Ms(0),
-            end_ms: Ms(0),
-        },
-        next: 0,
+        }
+    }
+}
+
+impl<'a> Iterator for Walk<'a> {
+    type Item = KaraokeSpan;
+
+    ghost next_gives = { YieldsFirst spans_left };
+
+    ghost remaining = { item_count spans_left };
+
+    fn next(&mut self) -> Option<KaraokeSpan> {
+        let at = next_beat(self.table, self.at)?;
+        let r = table::record_at(self.table, at);
+        let start_ms = self.start_ms;
+        let end_ms = start_ms.saturating_add(Ms::from(Cs(r.w2)));
+        self.at = at + 1;
+        self.start_ms = end_ms;
+        Some(KaraokeSpan {
+            kind: kind_of(r.w1),
+            start_ms,
+            end_ms,
+        })
     }
 }
 
 fn kind_of(w: u32) -> KaraokeKind
     ensures { result ≡ beat_of w }
 {
-    if 1 < w {
-        KaraokeKind::Outline
-    } else if w == 1 {
-        KaraokeKind::Sweep
-    } else {
-        KaraokeKind::Fill
+    match w {
+        0 => KaraokeKind::Fill,
+        1 => KaraokeKind::Sweep,
+        _ => KaraokeKind::Outline,
     }
 }
 
 // The first karaoke record from `from` on that is in no T. A T is passed over with all that is inside it.
-fn next_beat(table: &[u32], from: usize) -> usize
-    requires { 0 < length (beats_from table.now from) }
-    ensures { Found table.now from result }
+fn next_beat(table: &[u32], from: usize) -> Option<usize>
+    ensures { NextBeat table.now from result }
 {
     let mut at = from;
-    loop {
+    while at < table.len() / 8 {
         let r = table::record_at(table, at);
-        let kind = r.kind;
-        if kind == 46 {
-            return at;
-        }
-        if kind == 49 {
-            at += 1 + (r.w5 as usize);
-        } else {
-            at += 1;
+        match r.kind {
+            46 => return Some(at),
+            49 => at += 1 + r.w5 as usize,
+            _ => at += 1,
         }
     }
-}
-
-// The walk, one span further.
-fn next_span(table: &[u32], w: Walk) -> Walk
-    requires { 0 < length (spans_left table.now w) }
-    ensures { spans_left table.now w ≡ result.span ∷ spans_left table.now result }
-{
-    let at = next_beat(table, w.next);
-    let r = table::record_at(table, at);
-    let before = w.span;
-    let start = before.end_ms;
-    let end = plus(start, in_ms(Cs(r.w2)));
-    Walk {
-        span: KaraokeSpan {
-            kind: kind_of(r.w1),
-            start_ms: start,
-            end_ms: end,
-        },
-        next: at + 1,
-    }
+    None
 }
 
 // ---- ground 5, and how many spans there are
@@ -144,15 +124,12 @@ fn fits(r: Record) -> bool
     requires { Plain r.kind }
     ensures { result ≡ in_range r }
 {
-    let kind = r.kind;
-    match kind {
-        // Kinds that follow one another stand in two arms: in one arm a run becomes a comparison, and the fact of an arm no list of its kinds.
-        5 | 7 | 10 | 13 | 16 | 18 | 20 | 23 | 35 => table::float_fits(r),
-        6 | 8 | 14 | 17 | 19 | 21 | 24 => table::float_fits(r),
-        9 | 27 | 29 => table::colour_fits(r),
-        28 => table::colour_fits(r),
-        22 | 30 | 32 | 34 | 38 | 40 | 48 => table::number_fits(r, 0, 255),
-        31 | 33 => table::number_fits(r, 0, 255),
+    match r.kind {
+        5 | 6 | 7 | 8 | 10 | 13 | 14 | 16 | 17 | 18 | 19 | 20 | 21 | 23 | 24 | 35 => {
+            table::float_fits(r)
+        }
+        9 | 27 | 28 | 29 => table::colour_fits(r),
+        22 | 30 | 31 | 32 | 33 | 34 | 38 | 40 | 48 => table::number_fits(r, 0, 255),
         3 | 15 => table::pair_fits(r),
         4 => table::move_fits(r),
         1 => table::numbers_fit(r, 2147483647, 2147483647),
@@ -164,8 +141,7 @@ fn fits(r: Record) -> bool
         39 => table::font_fits(r),
         41 => table::reset_fits(r),
         42 => table::weight_fits(r),
-        43 | 45 => table::number_fits(r, 0, 1),
-        44 => table::number_fits(r, 0, 1),
+        43 | 44 | 45 => table::number_fits(r, 0, 1),
         47 => table::shift_fits(r),
         _ => false,
     }
@@ -177,91 +153,60 @@ fn past_beats(table: &[u32], from: usize, end: usize) -> usize
     requires { (from ≤ end) × Inside table.now 0 end }
     ensures { Run table.now end from result }
 {
-    let mut at = from;
-    while at < end {
+    for at in from..end {
         let r = table::record_at(table, at);
-        let kind = r.kind;
-        if kind != 46 {
+        if r.kind != 46 || !table::numbers_fit(r, 2, 1000000000) {
             return at;
         }
-        if !table::numbers_fit(r, 2, 1000000000) {
-            return at;
-        }
-        at += 1;
     }
-    at
+    end
 }
 
 // Ground 5, or how many spans there are: each record is checked and counted in one pass, a T with all that is inside it.
-fn count_spans(table: &[u32]) -> Answer
+fn count_spans(table: &[u32]) -> Result<usize, Refusal>
     ensures { result ≡ counted table.now }
 {
-    let end = scan::least(table.len() / 8, 1024);
+    let end = (table.len() / 8).min(1024);
     let mut n = 0;
     let mut at = 0;
     while at < end {
         let r = table::record_at(table, at);
-        let kind = r.kind;
-        if kind == 46 {
-            let next = past_beats(table, at, end);
-            if next == at {
-                return Answer::Refused(Refusal::TableMalformed(at));
+        match r.kind {
+            46 => {
+                let next = past_beats(table, at, end);
+                if next == at {
+                    return Err(Refusal::TableMalformed(at));
+                }
+                n += next - at;
+                at = next;
             }
-            n += next - at;
-            at = next;
-        } else if kind == 49 {
-            if let Checked::Bad(x) = table::t_fault(table, at, end - at, r) {
-                return Answer::Refused(x);
+            49 => {
+                table::t_fault(table, at, end - at, r)?;
+                at += 1 + r.w5 as usize;
             }
-            let inside = r.w5 as usize;
-            at += 1 + inside;
-        } else {
-            if !fits(r) {
-                return Answer::Refused(Refusal::TableMalformed(at));
+            _ => {
+                if !fits(r) {
+                    return Err(Refusal::TableMalformed(at));
+                }
+                at += 1;
             }
-            at += 1;
         }
     }
-    match table::excess(table) {
-        Checked::Bad(x) => Answer::Refused(x),
-        Checked::Good => Answer::Written(n),
-    }
+    table::excess(table)?;
+    Ok(n)
 }
 
 // ---- the calls
 
 // Grounds 5 and 9, or how many spans there are, where so many places are lent.
-fn check_spans(table: &[u32], places: usize) -> Answer
+fn check_spans(table: &[u32], places: usize) -> Result<usize, Refusal>
     ensures { result ≡ answer_of table.now places }
 {
-    match count_spans(table) {
-        Answer::Refused(r) => Answer::Refused(r),
-        Answer::Written(n) => {
-            if n <= scan::least(places, 1024) {
-                return Answer::Written(n);
-            }
-            Answer::Refused(Refusal::NoRoom(n))
-        }
-    }
-}
-
-// How many spans an answer lets through: none after a refusal.
-fn written_in(a: Answer) -> usize
-    ensures { result ≡ written_in a }
-{
-    match a {
-        Answer::Written(n) => n,
-        Answer::Refused(_) => 0,
-    }
-}
-
-fn kind_word(k: KaraokeKind) -> u32
-    ensures { result ≡ kind_word k }
-{
-    match k {
-        KaraokeKind::Fill => 0,
-        KaraokeKind::Sweep => 1,
-        KaraokeKind::Outline => 2,
+    let n = count_spans(table)?;
+    if n <= places.min(1024) {
+        Ok(n)
+    } else {
+        Err(Refusal::NoRoom(n))
     }
 }
 
@@ -270,44 +215,31 @@ fn put_span(words: &mut [u32], k: usize, s: KaraokeSpan)
     requires { k + 3 ≤ length words.old }
     ensures { words.new ≡ take k words.old ++ laid_spans (drop k words.old) (s ∷ []) }
 {
-    let kind = s.kind;
-    let start = s.start_ms;
-    let end = s.end_ms;
-    words[k] = kind_word(kind);
-    words[k + 1] = start.0;
-    words[k + 2] = end.0;
+    words[k] = u32::from(s.kind);
+    words[k + 1] = s.start_ms.0;
+    words[k + 2] = s.end_ms.0;
 }
 
 // 01, Karaoke, for the C interface: the spans of the tags that the table stands for, three words each, into the lent words.
-pub fn write_spans(table: &[u32], words: &mut [u32]) -> Answer
+pub fn write_spans(table: &[u32], words: &mut [u32]) -> Result<usize, Refusal>
     ensures { AnsweredWords table.now words.old result words.new }
 {
-    let answer = check_spans(table, words.len() / 3);
-    let n = written_in(answer);
-    let mut walk = begin();
-    let mut i = 0;
-    while i < n {
-        walk = next_span(table, walk);
-        put_span(words, 3 * i, walk.span);
-        i += 1;
+    let n = check_spans(table, words.len() / 3)?;
+    for (i, span) in Walk::of(table).enumerate() {
+        put_span(words, 3 * i, span);
     }
-    answer
+    Ok(n)
 }
 
 // 01, Karaoke: the spans of the tags that the table stands for, into the lent list.
-pub fn karaoke_spans(table: &[u32], list: &mut [KaraokeSpan]) -> Answer
+pub fn karaoke_spans(table: &[u32], list: &mut [KaraokeSpan]) -> Result<usize, Refusal>
     ensures { Answered table.now list.old result list.new }
 {
-    let answer = check_spans(table, list.len());
-    let n = written_in(answer);
-    let mut walk = begin();
-    let mut i = 0;
-    while i < n {
-        walk = next_span(table, walk);
-        list[i] = walk.span;
-        i += 1;
+    let n = check_spans(table, list.len())?;
+    for (i, span) in Walk::of(table).enumerate() {
+        list[i] = span;
     }
-    answer
+    Ok(n)
 }
 
 // ---- progress
@@ -317,33 +249,22 @@ pub fn karaoke_spans(table: &[u32], list: &mut [KaraokeSpan]) -> Answer
 fn progress_in(start: Ms, end: Ms, t: i32) -> f32
     ensures { result ≡ progress_in (whole start) (whole end) t }
 {
-    if t < 0 {
-        return 0.0;
+    let now = t.max(0) as u32;
+    if now <= start.0 {
+        0.0
+    } else if end.0 <= now {
+        1.0
+    } else {
+        ramp::quotient(now - start.0, end.0 - start.0)
     }
-    let now = t as u32;
-    let a = start.0;
-    let b = end.0;
-    if now <= a {
-        return 0.0;
-    }
-    if scan::either(b <= now, b <= a) {
-        return 1.0;
-    }
-    ramp::quotient(now - a, b - a)
 }
 
 // 01, Karaoke: how far an instant is in a span.
-pub fn progress(span: KaraokeSpan, t: i32) -> Progressed
+pub fn progress(span: KaraokeSpan, t: i32) -> Result<f32, Refusal>
     ensures value { result ≡ progressed span t }
     ensures progress_stands { ProgressStands span t result }
     ensures in_unit { InUnit (progress_of result) }
 {
-    match table::check_times(t, t) {
-        Checked::Bad(r) => Progressed::Refused(r),
-        Checked::Good => {
-            let start = span.start_ms;
-            let end = span.end_ms;
-            Progressed::At(progress_in(start, end, t))
-        }
-    }
+    table::check_times(t, t)?;
+    Ok(progress_in(span.start_ms, span.end_ms, t))
 }

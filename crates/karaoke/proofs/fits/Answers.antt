@@ -1,39 +1,27 @@
 use mathlib.Core.Path.{refl, ◌∙◌}
-use mathlib.Core.List.{List, [], ◌∷◌}
-use Prim.Native.Nat.{ℕ}
+use mathlib.Core.List.{[], ◌∷◌}
 use native.Mathlib.Omega.{arith}
 use Rattle.tag.specs.Range.{unused, float, range, time, weight, free, times_fit, part_fits, rows}
 use Rattle.table.specs.Inner.{font_parts, style_part}
-use Rattle.table.proofs.ByKind.{of-kinds, of-joined, none_left, of_none}
+use Rattle.table.proofs.ByKind.{of-kinds, of-joined, of_none}
+use Rattle.karaoke.proofs.fits.Goals.{in-10-1, in_default+else-r-lt1+then-r-lt25, in-22-1, in_default+else-r-lt1+else-r-lt25+else-r-lt30+then-r-lt35, in-9-1, in_default+else-r-lt1+else-r-lt25+then-r-lt30}
 use Rattle.karaoke.proofs.fits.Goals as goal
-
--- the kinds of a T and of a karaoke record, then those that the arms are for, the last arm first
-abbrev kinds : List (List ℕ)
-kinds = (49 ∷ []) ∷ (46 ∷ []) ∷ (47 ∷ []) ∷ (44 ∷ []) ∷ (43 ∷ 45 ∷ []) ∷ (42 ∷ []) ∷ (41 ∷ []) ∷ (39 ∷ []) ∷ (37 ∷ []) ∷ (36 ∷ []) ∷ (12 ∷ 26 ∷ []) ∷ (11 ∷ 25 ∷ []) ∷ (2 ∷ []) ∷ (1 ∷ []) ∷ (4 ∷ []) ∷ (3 ∷ 15 ∷ []) ∷ (31 ∷ 33 ∷ []) ∷ (22 ∷ 30 ∷ 32 ∷ 34 ∷ 38 ∷ 40 ∷ 48 ∷ []) ∷ (28 ∷ []) ∷ (9 ∷ 27 ∷ 29 ∷ []) ∷ (6 ∷ 8 ∷ 14 ∷ 17 ∷ 19 ∷ 21 ∷ 24 ∷ []) ∷ (5 ∷ 7 ∷ 10 ∷ 13 ∷ 16 ∷ 18 ∷ 20 ∷ 23 ∷ 35 ∷ []) ∷ []
 
 pub returns-in-5 : goal.returns-in-5
 unfolding rows
-returns-in-5 c = c.float_fits.ensures ∙ of-kinds float unused unused unused unused unused unused (5 ∷ 7 ∷ 10 ∷ 13 ∷ 16 ∷ 18 ∷ 20 ∷ 23 ∷ 35 ∷ []) refl _ c.in-5.is
-
-pub returns-in-6 : goal.returns-in-6
-unfolding rows
-returns-in-6 c = c.float_fits-in-6.ensures ∙ of-kinds float unused unused unused unused unused unused (6 ∷ 8 ∷ 14 ∷ 17 ∷ 19 ∷ 21 ∷ 24 ∷ []) refl _ c.in-6.is
+returns-in-5 c = c.float_fits.ensures ∙ of-kinds float unused unused unused unused unused unused (5 ∷ 6 ∷ 7 ∷ 8 ∷ 10 ∷ 13 ∷ 14 ∷ 16 ∷ 17 ∷ 18 ∷ 19 ∷ 20 ∷ 21 ∷ 23 ∷ 24 ∷ 35 ∷ []) refl _ (elim c.in-5-1.branch [ in-10-1 w ↦ grind arith | in_default+else-r-lt1+then-r-lt25 w ↦ grind arith ])
 
 pub returns-in-9 : goal.returns-in-9
 unfolding rows
-returns-in-9 c = c.colour_fits.ensures ∙ of-kinds (range 0 255) (range 0 255) (range 0 255) unused unused unused unused (9 ∷ 27 ∷ 29 ∷ []) refl _ c.in-9.is
-
-pub returns-in-28 : goal.returns-in-28
-unfolding rows
-returns-in-28 c = c.colour_fits-in-28.ensures ∙ of-kinds (range 0 255) (range 0 255) (range 0 255) unused unused unused unused (28 ∷ []) refl _ c.in-28.is
+returns-in-9 c = c.colour_fits.ensures ∙ of-kinds (range 0 255) (range 0 255) (range 0 255) unused unused unused unused (9 ∷ 27 ∷ 28 ∷ 29 ∷ []) refl _ (elim c.in-9-1.branch [ in-9-1 w ↦ grind arith | in_default+else-r-lt1+else-r-lt25+then-r-lt30 w ↦ grind arith ])
 
 pub returns-in-22 : goal.returns-in-22
 unfolding rows
-returns-in-22 c = c.number_fits.ensures ∙ of-kinds (range 0 255) unused unused unused unused unused unused (22 ∷ 30 ∷ 32 ∷ 34 ∷ 38 ∷ 40 ∷ 48 ∷ []) refl _ c.in-22.is
+returns-in-22 c = c.number_fits-in-22.ensures ∙ of-kinds (range 0 255) unused unused unused unused unused unused (22 ∷ 30 ∷ 31 ∷ 32 ∷ 33 ∷ 34 ∷ 38 ∷ 40 ∷ 48 ∷ []) refl _ (elim c.in-22-1.branch [ in-22-1 w ↦ grind arith | in_default+else-r-lt1+else-r-lt25+else-r-lt30+then-r-lt35 w ↦ grind arith ])
 
-pub returns-in-31 : goal.returns-in-31
+pub returns-in-43 : goal.returns-in-43
 unfolding rows
-returns-in-31 c = c.number_fits-in-31.ensures ∙ of-kinds (range 0 255) unused unused unused unused unused unused (31 ∷ 33 ∷ []) refl _ c.in-31.is
+returns-in-43 c = c.number_fits-in-43.ensures ∙ of-kinds (range 0 1) unused unused unused unused unused unused (43 ∷ 44 ∷ 45 ∷ []) refl _ (let h = c.in-43 in grind arith)
 
 pub returns-in-3 : goal.returns-in-3
 unfolding rows
@@ -61,7 +49,7 @@ returns-in-12 c = c.drawing_fits.ensures ∙ of-joined free free unused unused u
 
 pub returns-in-36 : goal.returns-in-36
 unfolding rows
-returns-in-36 c = c.number_fits-in-36.ensures ∙ of-kinds (range 0 3) unused unused unused unused unused unused (36 ∷ []) refl _ c.in-36.is
+returns-in-36 c = c.number_fits.ensures ∙ of-kinds (range 0 3) unused unused unused unused unused unused (36 ∷ []) refl _ c.in-36.is
 
 pub returns-in-37 : goal.returns-in-37
 unfolding rows
@@ -79,19 +67,12 @@ pub returns-in-42 : goal.returns-in-42
 unfolding rows
 returns-in-42 c = c.weight_fits.ensures ∙ of-kinds weight unused unused unused unused unused unused (42 ∷ []) refl _ c.in-42.is
 
-pub returns-in-43 : goal.returns-in-43
-unfolding rows
-returns-in-43 c = c.number_fits-in-43.ensures ∙ of-kinds (range 0 1) unused unused unused unused unused unused (43 ∷ 45 ∷ []) refl _ c.in-43.is
-
-pub returns-in-44 : goal.returns-in-44
-unfolding rows
-returns-in-44 c = c.number_fits-in-44.ensures ∙ of-kinds (range 0 1) unused unused unused unused unused unused (44 ∷ []) refl _ c.in-44.is
-
 pub returns-in-47 : goal.returns-in-47
 unfolding rows
 returns-in-47 c = c.shift_fits.ensures ∙ of-kinds time unused unused unused unused unused unused (47 ∷ []) refl _ c.in-47.is
 
 pub returns-in_default : goal.returns-in_default
-returns-in_default c =
-    let p = c.requires in
-    of_none _ (λ h k. let z = none_left 49 1 kinds refl ((c.in_default.in_default-own.rest, p.0), p.1) h in omega arith)
+returns-in_default c = of_none _ (λ h k. let p = c.requires in omega (arith, p.0, p.1))
+
+pub returns-in_default-2 : goal.returns-in_default-2
+returns-in_default-2 c = of_none _ (λ h k. let p = c.requires in let a = p.0 in let b = p.1 in grind arith)

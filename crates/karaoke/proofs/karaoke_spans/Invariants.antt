@@ -1,12 +1,12 @@
 use mathlib.Core.Path.{◌≡◌}
-use Prim.Native.Nat.{◌-◌, ◌≤◌}
-use lib.ListN.{length, take}
+use lib.ListN.{take, drop}
+use Rattle.std.specs.Iterator.Adapters.{enumerate_source, enumerate_count}
 use Rattle.karaoke.specs.Answer.{written}
-use Rattle.karaoke.proofs.Filling.{all_spans, Filling}
+use Rattle.karaoke.specs.Inner.{all_spans, spans_left}
 use Rattle.karaoke.proofs.karaoke_spans.Given as goal
 
 abbrev pub invariant-loop-i : goal.invariant-loop-i
-invariant-loop-i l = Filling l.table l.n l.i l.walk × (l.list ≡ written (take l.i (all_spans l.table)) l.initial.list) × (l.n ≤ length l.initial.list) × (length l.list ≡ length l.initial.list)
-
-abbrev pub decreases-loop-i : goal.decreases-loop-i
-decreases-loop-i l = l.n - l.i
+invariant-loop-i l = record {
+  left : spans_left (enumerate_source l.i-iterator) ≡ drop (enumerate_count l.i-iterator) (all_spans l.table);
+  list : l.list ≡ written (take (enumerate_count l.i-iterator) (all_spans l.table)) l.initial.list;
+}

@@ -5,6 +5,7 @@ use Rattle.tag.specs.declared.Record.{Record}
 use Rattle.tag.specs.Range.{in_range, rows}
 use Rattle.table.proofs.ByKind.{unjoined}
 use Rattle.karaoke.proofs.Counting.{none, then, beat, unfit}
+use Rattle.karaoke.proofs.past_beats.Goals.{then-r-ne46-via-then-r-ne46, then-r-ne46-via-else-r-ne46+then-not-numbers_fit}
 use Rattle.karaoke.proofs.past_beats.Goals as goal
 
 pub record_at-r-requires : goal.record_at-r-requires
@@ -16,30 +17,30 @@ loop-at-init c =
     let z : f - f ≡ 0 = omega arith in
     rw z (none c.requires.0)
 
-pub returns-then-kind-ne46 : goal.returns-then-kind-ne46
-returns-then-kind-ne46 c = record { passed = c.loop-at.invariant; stop = λ h k. absurd (c.if-kind-ne46.true (ap (λ (r : Record). r.kind) c.record_at-r.ensures ∙ k)) }
-
-pub returns-then-not-numbers_fit : goal.returns-then-not-numbers_fit
+pub returns-then-r-ne46 : goal.returns-then-r-ne46
 unfolding in_range rows
-returns-then-not-numbers_fit c =
+returns-then-r-ne46 c =
     let l = c.loop-at in
-    let s = c.before.before.before.before.before.before.before in
+    let s = c.args in
     record {
       passed = l.invariant;
-      stop = λ h k. unfit s.args.table.now s.args.end l.at s.requires.1 h c.record_at-r.ensures c.if-kind-ne46.false (unjoined c.numbers_fit.ensures) c.if-not-numbers_fit.true;
+      stop = λ h k.
+          elim c.then-r-ne46.branch [
+            | then-r-ne46-via-then-r-ne46 w ↦ absurd (w.if-r-ne46.true (ap (λ (r : Record). r.kind) c.record_at-r.ensures ∙ k))
+            | then-r-ne46-via-else-r-ne46+then-not-numbers_fit w ↦ unfit s.table.now s.end l.at c.requires.1 h c.record_at-r.ensures w.if-r-ne46.false (unjoined w.numbers_fit.ensures) w.if-not-numbers_fit.true
+          ];
     }
-
-pub loop-at-smaller : goal.loop-at-smaller
-loop-at-smaller c = omega arith
 
 pub loop-at-preserved : goal.loop-at-preserved
 unfolding in_range rows
 loop-at-preserved c =
     let l = c.loop-at in
-    let s = c.before.before.before.before.before.before.before in
-    let g = beat s.args.table.now s.args.end l.at s.requires.1 c.loop-at-test.true c.record_at-r.ensures c.if-kind-ne46.false (unjoined c.numbers_fit.ensures) c.if-not-numbers_fit.false in
-    let z : l.at - s.args.from + 1 ≡ l.at + 1 - s.args.from = omega (arith, l.invariant.later) in
+    let s = c.args in
+    let g = beat s.table.now s.end l.at c.requires.1 c.loop-at-test.true c.record_at-r.ensures c.if-r-ne46.false (unjoined c.numbers_fit.ensures) c.if-not-numbers_fit.false in
+    let z : l.at - s.from + 1 ≡ l.at + 1 - s.from = omega (arith, l.invariant.later) in
     rw z at (then l.invariant g)
 
 pub returns : goal.returns
-returns c = record { passed = c.loop-at.invariant; stop = λ h. absurd (omega (arith, c.loop-at-test.false)) }
+returns c =
+    let e : c.loop-at.at ≡ c.args.end = omega (arith, c.loop-at.auto.at-end c.requires.0, c.loop-at-test.false) in
+    record { passed = rw e at c.loop-at.invariant; stop = λ h. absurd (omega arith) }

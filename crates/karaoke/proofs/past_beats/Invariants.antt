@@ -4,6 +4,3 @@ use Rattle.karaoke.proofs.past_beats.Given as goal
 
 abbrev pub invariant-loop-at : goal.invariant-loop-at
 invariant-loop-at l = Passed l.table l.end l.from l.at (l.at - l.from)
-
-abbrev pub decreases-loop-at : goal.decreases-loop-at
-decreases-loop-at l = l.end - l.at

@@ -1,12 +1,12 @@
 use mathlib.Core.Path.{◌≡◌}
-use Prim.Native.Nat.{◌-◌, ◌*◌, ◌≤◌}
-use lib.ListN.{length, take}
+use lib.ListN.{take, drop}
+use Rattle.std.specs.Iterator.Adapters.{enumerate_source, enumerate_count}
 use Rattle.karaoke.specs.Answer.{laid_spans}
-use Rattle.karaoke.proofs.Filling.{all_spans, Filling}
+use Rattle.karaoke.specs.Inner.{all_spans, spans_left}
 use Rattle.karaoke.proofs.write_spans.Given as goal
 
 abbrev pub invariant-loop-i : goal.invariant-loop-i
-invariant-loop-i l = Filling l.table l.n l.i l.walk × (l.words ≡ laid_spans l.initial.words (take l.i (all_spans l.table))) × (l.n * 3 ≤ length l.initial.words) × (length l.words ≡ length l.initial.words)
-
-abbrev pub decreases-loop-i : goal.decreases-loop-i
-decreases-loop-i l = l.n - l.i
+invariant-loop-i l = record {
+  left : spans_left (enumerate_source l.i-iterator) ≡ drop (enumerate_count l.i-iterator) (all_spans l.table);
+  words : l.words ≡ laid_spans l.initial.words (take (enumerate_count l.i-iterator) (all_spans l.table));
+}
