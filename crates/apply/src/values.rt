@@ -1,4 +1,5 @@
 // The values that the words of a record stand for.
+// For the compiler (MEASURED, Shapes for the compiler): each word of a record is handed over by itself.
 ghost use Rattle.std.specs.Prelude.{◌≡◌, Option, min};
 ghost use Rattle.std.specs.Float.Ieee.{le};
 ghost use Rattle.scan.specs.Scan.{pick};

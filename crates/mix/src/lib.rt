@@ -48,6 +48,7 @@ fn held(raw: f32, k: f32) -> f32
 }
 
 // How far a \t with these words for its times has come at t in a line of dur, with the bits of its acceleration.
+// For the compiler (MEASURED, Shapes for the compiler): each word of a record is handed over by itself.
 #[tactic(auto, unfolding(state::specs::Mix::factor))]
 pub fn factor(flag: u32, start: u32, end: u32, accel: u32, t: i32, dur: i32) -> f32
     ensures { result ≡ factor_of (times_of flag start end) (f accel) t dur }

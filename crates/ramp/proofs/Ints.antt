@@ -1,15 +1,14 @@
 -- Signed numbers of 32 bits as the code reads them: tests, distances.
-use Prim.Native.Nat.{ℕ, zero, suc, ◌+◌, ◌-◌, ◌≤◌, ◌<◌, ◌^◌}
+use Prim.Native.Nat.{ℕ, suc, ◌+◌, ◌-◌}
 use native.Mathlib.Omega.{arith}
 use Rattle.std.proofs.lemmas.Int.{ints}
-use mathlib.Core.Path.{◌≡◌, refl, sym, ap, ◌∙◌}
-use mathlib.Core.Bool.{Bool, true, false, true≢false}
-use lib.IntN.{ℤ, pos, negsuc, sub_ℕ, ◌-ℤ◌}
-use lib.Signed.{le_z, lt_z, mag}
+use mathlib.Core.Path.{◌≡◌}
+use mathlib.Core.Bool.{Bool, true, false}
+use lib.IntN.{ℤ, pos, negsuc, ◌-ℤ◌}
+use lib.Signed.{le_z}
 use mir.Syntax.{w32}
 use mir.Val.{SFits, to_z, of_z}
 use mir.ValLaws.{to_z-of_z}
-use borrow.Author.Tests.{le-ltb, leb-true}
 
 abbrev pub dist : ℤ → ℤ → ℕ
 dist (pos a) (pos b) = b - a
@@ -17,25 +16,15 @@ dist (pos a) (negsuc b) = 0
 dist (negsuc a) (pos b) = b + suc a
 dist (negsuc a) (negsuc b) = a - b
 
-sub_of : (a b : ℕ) → b ≤ a → sub_ℕ a b ≡ pos (a - b)
-sub_of a b h = rw (le-ltb a b h)
-
 pub dist_is : (lo hi : ℤ) → le_z lo hi ≡ true → hi -ℤ lo ≡ pos (dist lo hi)
-dist_is (pos zero) (pos b) h = ap pos (omega arith)
-dist_is (pos (suc a)) (pos b) h = sub_of b (suc a) (leb-true (suc a) b h)
-dist_is (pos a) (negsuc b) h = absurd (true≢false (sym h))
-dist_is (negsuc a) (pos b) h = refl
-dist_is (negsuc a) (negsuc b) h = sub_of (suc a) (suc b) (let k : b ≤ a = leb-true b a h in omega arith) ∙ ap pos (omega arith)
+dist_is (pos a) (pos b) h = grind (arith, ints)
+dist_is (pos a) (negsuc b) h = grind (arith, ints)
+dist_is (negsuc a) (pos b) h = grind (arith, ints)
+dist_is (negsuc a) (negsuc b) h = grind (arith, ints)
 
 -- the tests on signed numbers, turned round
 pub not_le : (a b : ℤ) → le_z a b ≡ false → le_z b a ≡ true
 not_le a b h = grind (arith, ints)
-
-pub not_lt : (a b : ℤ) → lt_z a b ≡ false → le_z b a ≡ true
-not_lt a b h = grind (arith, ints)
-
-pub lt_le : (a b : ℤ) → lt_z a b ≡ true → le_z a b ≡ true
-lt_le a b h = grind (arith, ints)
 
 pub le_le : (a b c : ℤ) → le_z a b ≡ true → le_z b c ≡ true → le_z a c ≡ true
 le_le a b c h k = grind (arith, ints)
@@ -44,12 +33,5 @@ le_le a b c h k = grind (arith, ints)
 pub told : (q : ℤ → ℤ → Bool) {a b : ℤ} {v : Bool} → SFits w32 a → SFits w32 b → q (to_z w32 (of_z w32 a)) (to_z w32 (of_z w32 b)) ≡ v → q a b ≡ v
 told q {a} {b} f g h = rw (to_z-of_z w32 a f, to_z-of_z w32 b g) at h
 
-pub ask : (q : ℤ → ℤ → Bool) {a b : ℤ} {v : Bool} → SFits w32 a → SFits w32 b → q a b ≡ v → q (to_z w32 (of_z w32 a)) (to_z w32 (of_z w32 b)) ≡ v
-ask q {a} {b} f g h = rw (to_z-of_z w32 a f, to_z-of_z w32 b g) h
-
 pub seen : {a : ℤ} → SFits w32 a → to_z w32 (of_z w32 a) ≡ a
 seen {a} f = to_z-of_z w32 a f
-
--- the same of a call's result
-pub answered : (a : ℤ) → mag a < 2 ^ 31 → to_z w32 (of_z w32 a) ≡ a
-answered a h = to_z-of_z w32 a (record { sfits = h })

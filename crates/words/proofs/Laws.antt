@@ -24,15 +24,15 @@ sets_append (w ∷ a) b t at =
 further : {u : List ℕ} {n : ℕ} (k : ℕ) → Clear u n → drop (n + k) u ≡ replicate (92 - (n + k)) 0
 further {u} {n} k c =
     let e : 92 - n - k ≡ 92 - (n + k) = omega arith in
-    sym (drop-drop k n u) ∙ ap (drop k) c.rest ∙ drop-replicate k (92 - n) 0 ∙ ap (λ (m : ℕ). replicate m 0) e
+    rw (← drop-drop k n u, c.rest, drop-replicate {X = ℕ} k (92 - n) 0, e)
 
 -- zeros are there already
 absent : {u : List ℕ} {n k : ℕ} → Free u n k → Put u n k (replicate k 0) u
 unfolding put_at
 absent {u} {n} {k} f =
     let c = f.clear in
-    let z = length-replicate {A = ℕ} k 0 in
-    let l : n + length (replicate k 0) ≤ length u = omega (arith, z, f.room, c.wide) in
+    let z : length (replicate {A = ℕ} k 0) ≡ k = length-replicate k 0 in
+    let l : n + length (replicate {A = ℕ} k 0) ≤ length u = omega (arith, z, f.room, c.wide) in
     let m : k + (92 - (n + k)) ≡ 92 - n = omega (arith, f.room) in
     let a : take n u ++ replicate k 0 ++ drop (n + length (replicate k 0)) u ≡ take n u ++ replicate k 0 ++ replicate (92 - (n + k)) 0 = rw z (ap (λ (r : List ℕ). take n u ++ replicate k 0 ++ r) (further k c)) in
     let b : replicate k 0 ++ replicate (92 - (n + k)) 0 ≡ drop n u = replicate-append-replicate k (92 - (n + k)) 0 ∙ ap (λ (i : ℕ). replicate i 0) m ∙ sym c.rest in
