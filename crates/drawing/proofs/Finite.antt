@@ -29,7 +29,9 @@ use Rattle.pen.specs.declared.Command.{Command}
 use Rattle.pen.specs.declared.Command.TheVariants.{Move, MoveOpen, Line, Cubic, Basis, Close, Unknown}
 use Rattle.tokens.specs.Tokens.{is_letter, special, one_letter, token_of, numeral_token, token_end, tokens, from, until_letter}
 use Rattle.pen.specs.Drawing.{f2, f4, scale_of, scaled, weighed, bez, span_of, Read1, none1, point, Read3, none3, points, behind_number, read_point, behind_point, read_three, Turn, turned, Gives, spline_point, by_mode, settled, settled_by, pointed_by, curve_by, bare_by, continues, moves_by, command, command_of, letter_turn, turn_of, walk, start}
-use Rattle.path.specs.Path.{move_to, line_to, cubic_to, closed}
+use Rattle.path.specs.declared.PathCommand.TheVariants.{MoveTo, LineTo, CubicTo, Close as Closed}
+use Rattle.std.specs.List.{All}
+use Rattle.std.proofs.lemmas.List.Elements.{All-cons, All-nil}
 use Rattle.drawing.specs.Answer.{drawing}
 use Rattle.drawing.specs.Finite.{Bounded, most, FiniteWord, FiniteCommand, FinitePath, end, and}
 use Rattle.drawing.proofs.Within.{e0, e1, e2, e4, e5, e6, mul-within, weighed-within, weighed-fits, reach-within}
@@ -105,17 +107,22 @@ scale_small x h = tested (scale_of x) (each_at (λ (y : ℕ). scale_test (scale_
 
 -- ---- commands
 
-near_move : {p : Point} → NearPoint p → FiniteCommand (move_to p)
-near_move n = record { w1 = word n.x; w2 = word n.y; w3 = no_word; w4 = no_word; w5 = no_word; w6 = no_word; w7 = no_word }
+seven : {a b c d e f g : ℕ} → FiniteWord a → FiniteWord b → FiniteWord c → FiniteWord d → FiniteWord e → FiniteWord f → FiniteWord g → All FiniteWord (a ∷ b ∷ c ∷ d ∷ e ∷ f ∷ g ∷ [])
+seven {a} {b} {c} {d} {e} {f} {g} t u v w x y z =
+    let P : ℕ → Type 0 = FiniteWord in
+    All-cons P a (b ∷ c ∷ d ∷ e ∷ f ∷ g ∷ []) t (All-cons P b (c ∷ d ∷ e ∷ f ∷ g ∷ []) u (All-cons P c (d ∷ e ∷ f ∷ g ∷ []) v (All-cons P d (e ∷ f ∷ g ∷ []) w (All-cons P e (f ∷ g ∷ []) x (All-cons P f (g ∷ []) y (All-cons P g [] z (All-nil P)))))))
 
-near_line : {p : Point} → NearPoint p → FiniteCommand (line_to p)
-near_line n = record { w1 = word n.x; w2 = word n.y; w3 = no_word; w4 = no_word; w5 = no_word; w6 = no_word; w7 = no_word }
+near_move : {p : Point} → NearPoint p → FiniteCommand (MoveTo p)
+near_move n = seven (word n.x) (word n.y) no_word no_word no_word no_word no_word
 
-near_cubic : {p q r : Point} → NearPoint p → NearPoint q → NearPoint r → FiniteCommand (cubic_to p q r)
-near_cubic a b c = record { w1 = word a.x; w2 = word a.y; w3 = word b.x; w4 = word b.y; w5 = word c.x; w6 = word c.y; w7 = no_word }
+near_line : {p : Point} → NearPoint p → FiniteCommand (LineTo p)
+near_line n = seven (word n.x) (word n.y) no_word no_word no_word no_word no_word
 
-near_close : FiniteCommand closed
-near_close = record { w1 = no_word; w2 = no_word; w3 = no_word; w4 = no_word; w5 = no_word; w6 = no_word; w7 = no_word }
+near_cubic : {p q r : Point} → NearPoint p → NearPoint q → NearPoint r → FiniteCommand (CubicTo p q r)
+near_cubic a b c = seven (word a.x) (word a.y) (word b.x) (word b.y) (word c.x) (word c.y) no_word
+
+near_close : FiniteCommand Closed
+near_close = seven no_word no_word no_word no_word no_word no_word no_word
 
 near_append : {a b : List PathCommand} → FinitePath a → FinitePath b → FinitePath (a ++ b)
 near_append end y = y
@@ -270,7 +277,7 @@ module _ (k : Float) (small : Bounded 1 k) where
   near_moves closes pen (point p rest) n h l =
       record {
         pen = record { cur = h.0; mode = tt };
-        path = near_append (picked FinitePath (pick closes pen.opened false) (closed ∷ []) [] (and near_close end) end) (and (near_move h.0) end);
+        path = near_append (picked FinitePath (pick closes pen.opened false) (Closed ∷ []) [] (and near_close end) end) (and (near_move h.0) end);
         rest = h.1;
       }
 

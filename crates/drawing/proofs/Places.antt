@@ -6,11 +6,9 @@ use native.Mathlib.Omega.{arith}
 use lib.Dec.{ltb}
 use lib.ListN.{length}
 use Rattle.scan.proofs.Laws.{picked}
-use Rattle.refusal.specs.Refusal.{most_bytes, text_ground}
-use Rattle.refusal.specs.Answer.{first_ground, room_for, unless_bad}
-use Rattle.refusal.specs.declared.Answer.{Answer}
-use Rattle.refusal.specs.declared.Checked.{Checked}
-use Rattle.refusal.specs.declared.Checked.TheVariants.{Good, Bad}
+use Rattle.std.specs.Prelude.{Ok, Err}
+use Rattle.refusal.specs.Refusal.{Checked, most_bytes, text_ground}
+use Rattle.refusal.specs.Answer.{Answer, first_ground, room_for, unless_bad}
 use Rattle.refusal.proofs.Laws.{Within, room_within, text-within, Few, room-few, unless-few}
 use Rattle.tokens.specs.Tokens.{from, tokens_ground}
 use Rattle.tokens.proofs.Places.{few-tokens, place_inside}
@@ -20,8 +18,8 @@ use Rattle.pen.proofs.Counting.{few_commands}
 
 -- one check behind another
 unless-both : (c d : Checked) (a : Answer) → unless_bad (first_ground c d) a ≡ unless_bad c (unless_bad d a)
-unless-both Good d a = refl
-unless-both (Bad r) d a = refl
+unless-both (Ok _) d a = refl
+unless-both (Err r) d a = refl
 
 module _ (s : List ℕ) (exponent places : ℕ) where
   abbrev room : Answer
@@ -32,10 +30,10 @@ module _ (s : List ℕ) (exponent places : ℕ) where
   after_text l = go (tokens_ground (from s 0)) refl
     where
       go : (c : Checked) → tokens_ground (from s 0) ≡ c → Within s (unless_bad (first_ground c (exponent_ground exponent)) room)
-      go (Bad r) e =
+      go (Err r) e =
           let h = place_inside s 0 r e in
           (omega arith, omega arith)
-      go Good e =
+      go (Ok _) e =
           let h = few_commands (scale_of exponent) (from s 0) in
           let k = few-tokens s 0 in
           picked (λ (c : Checked). Within s (unless_bad c room)) (ltb most_exponent exponent) _ _

@@ -1,14 +1,11 @@
 -- What `parse_drawing` answers, and what the path table holds afterwards.
-use Rattle.std.specs.Prelude.{◌≡◌, List, ℕ, ◌/◌, ltb, length}
+use Rattle.std.specs.Prelude.{◌≡◌, List, ℕ, ◌/◌, ltb, length, Ok, Err}
 use Rattle.scan.specs.Scan.{pick}
-use Rattle.refusal.specs.Refusal.{text_ground}
+use Rattle.refusal.specs.Refusal.{Checked, text_ground}
 use Rattle.refusal.specs.declared.Refusal.TheVariants.{ScaleTooLarge}
 use Rattle.path.specs.declared.PathCommand.{PathCommand}
 use Rattle.path.specs.Path.{command_width, laid_path}
-use Rattle.refusal.specs.declared.Checked.{Checked}
-use Rattle.refusal.specs.declared.Checked.TheVariants.{Good, Bad}
-use Rattle.refusal.specs.declared.Answer.{Answer}
-use Rattle.refusal.specs.Answer.{first_ground, room_for, unless_bad, table_after}
+use Rattle.refusal.specs.Answer.{Answer, first_ground, room_for, unless_bad, table_after}
 use Rattle.tokens.specs.Tokens.{from, tokens_ground}
 use Rattle.pen.specs.Drawing.{scale_of, draw}
 
@@ -17,7 +14,7 @@ abbrev pub most_exponent : ℕ
 most_exponent = 32
 
 abbrev pub exponent_ground : ℕ → Checked
-exponent_ground x = pick (ltb most_exponent x) (Bad ScaleTooLarge) Good
+exponent_ground x = pick (ltb most_exponent x) (Err ScaleTooLarge) (Ok tt)
 
 unfoldable pub ground : List ℕ → ℕ → Checked
 ground s exponent = first_ground (text_ground s) (first_ground (tokens_ground (from s 0)) (exponent_ground exponent))

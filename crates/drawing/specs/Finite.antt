@@ -1,9 +1,11 @@
 -- Paths whose coordinate words are all the bits of a finite f32, of magnitude at most 1,000,000,000.
-use Rattle.std.specs.Prelude.{◌≡◌, List, [], ◌∷◌, ℕ, ◌*◌, ◌≤◌, T, Float}
+use Rattle.std.specs.Prelude.{◌≡◌, List, [], ◌∷◌, ℕ, ◌*◌, ◌≤◌, T, Float, drop}
+use Rattle.std.specs.List.{All}
 use Rattle.std.specs.Float.{nan, inf, fin, binary32}
 use Rattle.std.specs.Float.Ieee.{up, down, fits}
 use Rattle.rows.specs.Rows.{bits}
 use Rattle.path.specs.declared.PathCommand.{PathCommand}
+use Rattle.path.specs.Path.{command_words}
 
 -- x is finite, of magnitude at most n
 abbrev pub Bounded : ℕ → Float → Type 0
@@ -23,14 +25,8 @@ pub record FiniteWord (w : ℕ) : Type 0 where
   pub is : w ≡ bits value
 
 -- all words behind a command's kind are such bits; where there is no coordinate, plus zero's
-pub record FiniteCommand (r : PathCommand) : Type 0 where
-  pub w1 : FiniteWord r.w1
-  pub w2 : FiniteWord r.w2
-  pub w3 : FiniteWord r.w3
-  pub w4 : FiniteWord r.w4
-  pub w5 : FiniteWord r.w5
-  pub w6 : FiniteWord r.w6
-  pub w7 : FiniteWord r.w7
+abbrev pub FiniteCommand : PathCommand → Type 0
+FiniteCommand c = All FiniteWord (drop 1 (command_words c))
 
 -- a path whose commands are all such
 pub data FinitePath : List PathCommand → Type 0 where

@@ -1,30 +1,28 @@
 -- Worked examples, by computation: a drawing and its commands, or its refusal.
-use Rattle.std.specs.Prelude.{◌≡◌, refl, List, [], ◌∷◌, ◌++◌, map, ℕ, replicate}
+use Rattle.std.specs.Prelude.{◌≡◌, refl, List, [], ◌∷◌, ◌++◌, map, ℕ, replicate, Ok, Err}
 use Rattle.std.specs.Float.Ieee.{round, to_bits, of_int, add, mul, div, sum}
 use Prim.Native.String.{String}
 use Rattle.scan.specs.Scan.{bytes, span, skip, skip_back, blank_at, blank_before}
 use Rattle.numeral.specs.Numeral.{value, split_at, exponent_at, float_of, f32_of}
-use Rattle.path.specs.declared.PathCommand.{PathCommand}
-use Rattle.path.specs.Path.{path_command}
+use Rattle.path.specs.Path.{path_command, command_words}
 use Rattle.refusal.specs.declared.Refusal.TheVariants.{TextTooLong, NotAscii, NumeralTooLong, ScaleTooLarge, NoRoom}
-use Rattle.refusal.specs.declared.Answer.{Answer}
-use Rattle.refusal.specs.declared.Answer.TheVariants.{Written, Refused}
+use Rattle.refusal.specs.Answer.{Answer}
 use Rattle.tokens.specs.Tokens.{spells, special, token_of, word_end_lem, tokens, until_letter, tokens_ground}
 use Rattle.pen.specs.Drawing.{scale_of, scaled, weighed, command_of, letter_turn, walk}
 use Rattle.drawing.specs.Answer.{ground, drawing, answer}
 use Rattle.refusal.specs.Refusal.{text_ground}
 
--- the commands of the sheet, and some numbers as f32
-abbrev move : ℕ → ℕ → PathCommand
+-- the rows of commands of the sheet, and some numbers as f32
+abbrev move : ℕ → ℕ → List ℕ
 move x y = path_command 1 x y 0 0 0 0 0
 
-abbrev line : ℕ → ℕ → PathCommand
+abbrev line : ℕ → ℕ → List ℕ
 line x y = path_command 2 x y 0 0 0 0 0
 
-abbrev cubic : ℕ → ℕ → ℕ → ℕ → ℕ → ℕ → PathCommand
+abbrev cubic : ℕ → ℕ → ℕ → ℕ → ℕ → ℕ → List ℕ
 cubic a b c d e f = path_command 3 a b c d e f 0
 
-abbrev close : PathCommand
+abbrev close : List ℕ
 close = path_command 4 0 0 0 0 0 0 0
 
 abbrev half : ℕ
@@ -51,12 +49,16 @@ n6 = 0x40C00000
 abbrev n100 : ℕ
 n100 = 0x42C80000
 
+-- a drawing's commands as the rows of words that they are
+abbrev pub rows_of : String → ℕ → List (List ℕ)
+rows_of text exponent = map command_words (drawing (bytes text) exponent)
+
 -- that each drawing, at its exponent, has its commands
-abbrev pub Draws : List (String × ℕ × List PathCommand) → Type 0
-Draws rows = map (λ (r : String × ℕ × List PathCommand). drawing (bytes r.0) r.1) rows ≡ map (λ (r : String × ℕ × List PathCommand). r.2) rows
+abbrev pub Draws : List (String × ℕ × List (List ℕ)) → Type 0
+Draws rows = map (λ (r : String × ℕ × List (List ℕ)). rows_of r.0 r.1) rows ≡ map (λ (r : String × ℕ × List (List ℕ)). r.2) rows
 
 -- 01, Sheet
-pub sheet : drawing (bytes "m 0 0 s 6 0 6 6 0 6") 1 ≡ move 0 0 ∷ line n5 n1 ∷ cubic n6 n2 n6 n4 n5 n5 ∷ []
+pub sheet : rows_of "m 0 0 s 6 0 6 6 0 6" 1 ≡ move 0 0 ∷ line n5 n1 ∷ cubic n6 n2 n6 n4 n5 n5 ∷ []
 unfolding round to_bits of_int add mul div sum span skip skip_back blank_at blank_before value split_at exponent_at float_of f32_of spells special token_of word_end_lem tokens until_letter scale_of scaled weighed command_of letter_turn walk
 sheet = refl
 
@@ -87,10 +89,10 @@ abbrev pub Answers : List (String × ℕ × ℕ × Answer) → Type 0
 Answers rows = map (λ (r : String × ℕ × ℕ × Answer). answer (bytes r.0) r.1 r.2) rows ≡ map (λ (r : String × ℕ × ℕ × Answer). r.3) rows
 
 pub answers : Answers (
-    ("m 1 2", 1, 1, Written 1) ∷
-    ("m 1 2", 32, 1, Written 1) ∷
-    ("m 1 2 c", 33, 0, Refused ScaleTooLarge) ∷
-    ("m 1 2 c", 1, 1, Refused (NoRoom 2)) ∷
+    ("m 1 2", 1, 1, Ok 1) ∷
+    ("m 1 2", 32, 1, Ok 1) ∷
+    ("m 1 2 c", 33, 0, Err ScaleTooLarge) ∷
+    ("m 1 2 c", 1, 1, Err (NoRoom 2)) ∷
     [])
 unfolding round to_bits of_int add mul div sum span skip skip_back blank_at blank_before value split_at exponent_at float_of f32_of spells special token_of word_end_lem tokens until_letter scale_of scaled weighed command_of letter_turn walk text_ground tokens_ground ground answer
 answers = refl
@@ -103,11 +105,11 @@ abbrev AnswersIn : List ((List ℕ × ℕ × ℕ) × Answer) → Type 0
 AnswersIn rows = map (λ (r : (List ℕ × ℕ × ℕ) × Answer). answer_in r.0) rows ≡ map (λ (r : (List ℕ × ℕ × ℕ) × Answer). r.1) rows
 
 pub two_faults : AnswersIn (
-    ((replicate 12289 128, 33, 0), Refused TextTooLong) ∷
-    ((bytes "m 1 1e9" ++ (128 ∷ []), 33, 0), Refused (NotAscii 7)) ∷
-    ((bytes "m 1 2 x 1e9 c", 33, 0), Refused (NumeralTooLong 8)) ∷
-    ((bytes "m 1 2 1e9", 1, 0), Refused (NumeralTooLong 6)) ∷
-    ((bytes "m 1 2 c", 33, 0), Refused ScaleTooLarge) ∷
+    ((replicate 12289 128, 33, 0), Err TextTooLong) ∷
+    ((bytes "m 1 1e9" ++ (128 ∷ []), 33, 0), Err (NotAscii 7)) ∷
+    ((bytes "m 1 2 x 1e9 c", 33, 0), Err (NumeralTooLong 8)) ∷
+    ((bytes "m 1 2 1e9", 1, 0), Err (NumeralTooLong 6)) ∷
+    ((bytes "m 1 2 c", 33, 0), Err ScaleTooLarge) ∷
     [])
 unfolding round to_bits of_int add mul div sum span skip skip_back blank_at blank_before value split_at exponent_at float_of f32_of spells special token_of word_end_lem tokens until_letter scale_of scaled weighed command_of letter_turn walk text_ground tokens_ground ground answer
 two_faults = refl

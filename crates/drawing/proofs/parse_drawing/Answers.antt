@@ -1,13 +1,18 @@
-use mathlib.Core.Path.{sym, ◌∙◌}
-use Rattle.drawing.proofs.Answering.{answered-text, answered-large}
-use borrow.Author.Rules.{rules}
+use Rattle.std.proofs.lemmas.Result.{err_from_is_err_and}
+use mathlib.Core.Path.{sym}
+use Rattle.drawing.proofs.Answering.{answered-text, answered-refused, answered-large}
 use Rattle.drawing.proofs.parse_drawing.Goals as goal
 
-pub returns-then-exponent-gt32 : goal.returns-then-exponent-gt32
-returns-then-exponent-gt32 c = answered-large _ _ _ (sym c.check_text-checked.ensures ∙ c.in-Good.is) c.if-exponent-gt32.true c.too_large.ensures
+pub returns-in_err-check_text : goal.returns-in_err-check_text
+returns-in_err-check_text c =
+    let p = err_from_is_err_and c.from_residual.result c.from_residual.ensures.1 in
+    rw (p.1, p.2) (answered-text _ _ _ (sym c.in_err-check_text.ensures))
 
-pub draw_good-requires : goal.draw_good-requires
-draw_good-requires c = (sym c.check_text-checked.ensures ∙ c.in-Good.is, search rules)
+pub returns-in_err-check_tokens : goal.returns-in_err-check_tokens
+returns-in_err-check_tokens c =
+    let e = c.from_residual-in_err-check_tokens in
+    let p = err_from_is_err_and e.result e.ensures.1 in
+    rw (p.1, p.2) (answered-refused _ _ _ (sym c.in_ok-check_text.ensures) (sym c.in_err-check_tokens.ensures))
 
-pub returns-in-Bad : goal.returns-in-Bad
-returns-in-Bad c = answered-text _ _ _ (sym c.check_text-checked.ensures ∙ c.in-Bad.is)
+pub returns-then-exponent-gt-MOST_EXPONENT : goal.returns-then-exponent-gt-MOST_EXPONENT
+returns-then-exponent-gt-MOST_EXPONENT c = answered-large _ _ _ (sym c.in_ok-check_text.ensures) c.if-exponent-gt-MOST_EXPONENT.true (sym c.in_ok-check_tokens.ensures)
