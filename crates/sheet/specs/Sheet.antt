@@ -26,8 +26,7 @@ use Rattle.tag.specs.declared.KaraokeKind.TheVariants.{Fill, Sweep}
 use Rattle.karaoke.specs.declared.KaraokeSpan.{KaraokeSpan}
 use Rattle.karaoke.specs.Karaoke.{ms, karaoke_spans}
 use Rattle.tokens.specs.Tokens.{spells, special, token_of, word_end_lem, tokens, until_letter}
-use Rattle.path.specs.declared.PathCommand.{PathCommand}
-use Rattle.path.specs.Path.{path_command}
+use Rattle.path.specs.Path.{path_command, command_words}
 use Rattle.pen.specs.Drawing.{scale_of, scaled, weighed, command_of, letter_turn, walk}
 use Rattle.drawing.specs.Answer.{drawing}
 
@@ -51,14 +50,14 @@ half = of_bits binary32 0x3F000000
 abbrev pub span : KaraokeKind → ℕ → ℕ → KaraokeSpan
 span k a b = record { kind = k; start_ms = ms a; end_ms = ms b }
 
--- a drawing's commands
-abbrev pub move_to : ℕ → ℕ → PathCommand
+-- a drawing's commands, each as the row of words that it is
+abbrev pub move_to : ℕ → ℕ → List ℕ
 move_to x y = path_command 1 (bits x) (bits y) 0 0 0 0 0
 
-abbrev pub line_to : ℕ → ℕ → PathCommand
+abbrev pub line_to : ℕ → ℕ → List ℕ
 line_to x y = path_command 2 (bits x) (bits y) 0 0 0 0 0
 
-abbrev pub cubic_to : ℕ → ℕ → ℕ → ℕ → ℕ → ℕ → PathCommand
+abbrev pub cubic_to : ℕ → ℕ → ℕ → ℕ → ℕ → ℕ → List ℕ
 cubic_to a b c d e f = path_command 3 (bits a) (bits b) (bits c) (bits d) (bits e) (bits f) 0
 
 -- what a row says of a text; a number of milliseconds behind the text is the line's duration
@@ -77,7 +76,7 @@ pub data Row : Type 0 where
   -- the primary colour
   coloured : String → ℕ → ℕ → ℕ → Row
   -- a drawing's commands, at a scale exponent
-  drawn : String → ℕ → List PathCommand → Row
+  drawn : String → ℕ → List (List ℕ) → Row
 
 abbrev pub Holds : Row → Type 0
 Holds (kinds text ks) = map (λ (r : Record). r.kind) (encode (tags_in text)) ≡ ks
@@ -88,7 +87,7 @@ Holds (marked text dur is) = marks (pos dur) (tags_in text) ≡ is
 Holds (after text dur at) = map (λ (p : ℕ × Mark). next_mark (pos p.0) (pos dur) (tags_in text)) at ≡ map (λ (p : ℕ × Mark). p.1) at
 Holds (sung text spans) = karaoke_spans (tags_in text) ≡ spans
 Holds (coloured text r g b) = (evaluate_at (pos 0) (pos 0) (tags_in text)).colors.primary_color.is ≡ OptRgb.Some (record { red = r; green = g; blue = b })
-Holds (drawn text exponent cs) = drawing (bytes text) exponent ≡ cs
+Holds (drawn text exponent cs) = map command_words (drawing (bytes text) exponent) ≡ cs
 
 -- ---- the rows
 
