@@ -26,7 +26,6 @@ use Rattle.tag.proofs.Tags.{encode-append, count_none, count-and, count-length, 
 use Rattle.plain.specs.Names.{key_at, t_key}
 use Rattle.plain.specs.Plain.{One, no, long, kept, far, plain_at, or_zero, time_of}
 use Rattle.plain.specs.Inner.{kept_of, cut_word}
-use Rattle.plain.specs.declared.Kept.{Kept}
 use Rattle.plain.proofs.Numbers.{Back, f32-back}
 use Rattle.plain.proofs.Gives.{Single}
 use Rattle.plain.proofs.Bridge.{plain-single}
@@ -34,7 +33,7 @@ use Rattle.read.specs.declared.Out.{Out}
 use Rattle.read.specs.declared.Head.{Head}
 use Rattle.read.specs.declared.Peeled.{Peeled}
 use Rattle.read.specs.Block.{Got, nothing, join, one_got, Peel, peel_head, peel, peel_to, head_times, head_accel, head_end, tag_at, parse, t_at}
-use Rattle.read.specs.Inner.{heads_from, no_heads, t_words, Peels, found_of, Seen, seen_of, kept_records, kept_got, joined_out, around_out, seen_in, Told}
+use Rattle.read.specs.Inner.{heads_from, no_heads, t_words, Peels, found_of, Seen, seen_of, kept_records, kept_got, Keeps, joined_out, around_out, seen_in, Told}
 use Rattle.read.specs.Reading.{kept_tags}
 use Rattle.read.proofs.Walk.{tag_plain, t-more}
 
@@ -48,14 +47,12 @@ one_seen i (long p) t s = (refl, refl)
 one_seen i (kept x) t s = (rw (count-single x s), rw s)
 one_seen i (far x) t s = (rw (count-single x s), rw s)
 
--- what `parse_one` says, from what its calls say; p is where the parameter begins, as the code has it
-module _ (inner : ℕ → ℕ → Got) (s : List ℕ) (i : ℕ) (h : Head) (p : ℕ) (t : List ℕ) (k : Kept) (r : Out) (u : List ℕ) where
-  pub plain-told : ¬ (key_at s h.name h.end ≡ t_key) → h.p ≡ p → k ≡ kept_of (plain_at s h.name h.end p h.q) → (seen_of r ≡ kept_got i k) × (u ≡ laid t (kept_records k)) × (r.n ≤ 1)
-      → Told t (tag_at inner s i h) (h.q - h.p + 1) r u
-  plain-told n e f g =
-      let x = plain_at s h.name h.end p h.q in
-      let y = one_seen i x t (plain-single s h.name h.end p h.q) in
-      rw (tag_plain inner s i h n, e) (record { out = g.0 ∙ rw f y.0; table = g.1 ∙ rw f y.1; few = omega arith })
+-- what `parse_one` says, from what its calls say
+module _ (inner : ℕ → ℕ → Got) (s : List ℕ) (i : ℕ) (h : Head) (t : List ℕ) (r : Out) (u : List ℕ) where
+  pub plain-told : ¬ (key_at s h.name h.end ≡ t_key) → Keeps i (kept_of (plain_at s h.name h.end h.p h.q)) t r u → Told t (tag_at inner s i h) (h.q - h.p + 1) r u
+  plain-told n g =
+      let y = one_seen i (plain_at s h.name h.end h.p h.q) t (plain-single s h.name h.end h.p h.q) in
+      rw (tag_plain inner s i h n) (record { out = g.out ∙ y.0; table = g.table ∙ y.1; few = omega (arith, g.few) })
 
 -- ---- a \t
 

@@ -103,6 +103,12 @@ kept_got i (Long p) = record { n = 0; long = Some p; far = None }
 kept_got i (Tag r) = record { n = 1; long = None; far = None }
 kept_got i (Far r) = record { n = 1; long = None; far = Some i }
 
+-- what is said of a plain tag's result r and of the table, t before and u after
+pub record Keeps (i : ℕ) (k : Kept) (t : List ℕ) (r : Out) (u : List ℕ) : Type 0 where
+  pub out : seen_of r ≡ kept_got i k
+  pub table : u ≡ laid t (kept_records k)
+  pub few : r.n ≤ 1
+
 -- one reader behind another
 abbrev pub joined_out : Seen → Seen → Seen
 joined_out a b = record { n = a.n + b.n; long = first_of a.long b.long; far = first_of a.far b.far }

@@ -4,11 +4,14 @@
 ghost use Rattle.std.specs.Prelude.{◌≡◌, ◌+◌, ◌-◌, ◌*◌, ◌^◌, ◌≤◌, ◌<◌, length, Ok};
 ghost use Rattle.lists.specs.Lists.{first_of};
 ghost use Rattle.refusal.specs.Refusal.{most_bytes, text_ground};
-ghost use Rattle.tag.specs.Table.{places_of, laid};
+ghost use Rattle.tag.specs.Table.{places_of};
+ghost use Rattle.plain.specs.Names.{key_at};
+ghost use Rattle.plain.specs.Plain.{plain_at};
+ghost use Rattle.plain.specs.Inner.{kept_of};
 ghost use Rattle.read.specs.Block.{param_at, name_end, head_at, peel_to, tag_at, t_at, parse};
 ghost use Rattle.read.specs.Reading.{read_ground, whole_text, less_braces, Answered};
 ghost use Rattle.read.specs.Moved.{AsAlone};
-ghost use Rattle.read.specs.Inner.{HeadIn, headed, t_words, Peels, no_place, InWord, found_of, seen_of, kept_records, kept_got, joined_out, around_out, Told, BraceEnd};
+ghost use Rattle.read.specs.Inner.{HeadIn, headed, t_words, Peels, no_place, InWord, found_of, seen_of, kept_got, Keeps, joined_out, around_out, Told, BraceEnd};
 
 use numeral::Numeral;
 use plain::Kept;
@@ -174,6 +177,8 @@ fn head_at(text: &[u8], i: usize, e: usize) -> Head
 }
 
 // The numbers in front of a \t's tags, as `peel_leading_numbers` has them.
+// Not inlined, as `plain_tag`: what they hold is then on the stack once, and not at each level of \t.
+#[inline(never)]
 fn peel(text: &[u8], p: usize, q: usize) -> Peeled
     requires { (p ≤ q) × (q ≤ length text.now) × (q < 65536) }
     ensures { Peels p q (peel_to text.now p q) result }
@@ -224,7 +229,7 @@ fn t_record(h: Heads, n: u32) -> Record
 #[tactic(auto, unfolding(rows::specs::Rows::laid_rows))]
 fn keep(i: usize, k: Kept, table: &mut [u32]) -> Out
     requires { (i < no_place) × InWord (kept_got i k).long }
-    ensures { (seen_of result ≡ kept_got i k) × (table.new ≡ laid table.old (kept_records k)) × (result.n ≤ 1) }
+    ensures { Keeps i k table.old result table.new }
 {
     match k {
         Kept::No => Out::NONE,
@@ -247,6 +252,16 @@ fn keep(i: usize, k: Kept, table: &mut [u32]) -> Out
     }
 }
 
+// A tag other than \t, its backslash at i, into the front of the table.
+#[inline(never)]
+fn plain_tag(text: &[u8], key: u64, i: usize, h: Head, table: &mut [u32]) -> Out
+    requires { (key ≡ key_at text.now h.name h.end) × (i < h.end) × (h.name ≤ h.end) × (h.end ≤ h.p) × (h.p ≤ h.q) × (h.q ≤ length text.now) × (length text.now ≤ most_bytes) }
+    ensures { Keeps i (kept_of (plain_at text.now h.name h.end h.p h.q)) table.old result table.new }
+{
+    let k = plain::plain_at(text, key, h.name, h.end, h.p, h.q);
+    keep(i, k, table)
+}
+
 // One tag, its backslash at i, into the front of the table.
 #[cycle(blocks)]
 fn parse_one(text: &[u8], i: usize, h: Head, depth: usize, table: &mut [u32]) -> Out
@@ -257,19 +272,7 @@ fn parse_one(text: &[u8], i: usize, h: Head, depth: usize, table: &mut [u32]) ->
     if key == 0x74 {
         return parse_t(text, h.p, h.q, depth, table);
     }
-    // For the compiler (MEASURED, Shapes for the compiler): plain_at is asked in two places, so that what it holds is on the stack once and not at each level of \t.
-    if h.p == h.end {
-        return keep(
-            i,
-            plain::plain_at(text, key, h.name, h.end, h.end, h.q),
-            table,
-        );
-    }
-    keep(
-        i,
-        plain::plain_at(text, key, h.name, h.end, h.p, h.q),
-        table,
-    )
+    plain_tag(text, key, i, h, table)
 }
 
 // A \t: its tags go into the rest of the table behind its own record.

@@ -91,8 +91,8 @@ abbrev drawing : Record → Bool
 drawing r = part_fits r.w1 r.w2
 
 -- \fn: both parts, and one of them not empty
-abbrev font_name_lem : Record → Bool
-font_name_lem r = pick (part_fits r.w1 r.w2) (pick (part_fits r.w3 r.w4) (ltb 0 (r.w2 + r.w4)) false) false
+abbrev font_name : Record → Bool
+font_name r = pick (part_fits r.w1 r.w2) (pick (part_fits r.w3 r.w4) (ltb 0 (r.w2 + r.w4)) false) false
 
 -- \r: no name, or one that is not empty
 abbrev style_name : Record → Bool
@@ -139,7 +139,7 @@ rows =
     one_word (range 0 3) ∷  -- Q
     one_word (range 1 9) ∷  -- An
     one_word byte ∷  -- A
-    joined font_name_lem (row free free free free unused unused unused) ∷  -- Fn
+    joined font_name (row free free free free unused unused unused) ∷  -- Fn
     one_word byte ∷  -- Fe
     joined style_name (row flag free free unused unused unused unused) ∷  -- R
     one_word weight ∷  -- B

@@ -7,7 +7,7 @@ use Rattle.tag.specs.Table.{encode}
 use Rattle.plain.specs.Names.{key_at, t_key}
 use Rattle.read.proofs.Walk.{parse-end, parse-skip, parse_bare, parse_tag, tag_t, t-none, less_left, count_step, next_past}
 use Rattle.read.specs.Inner.{Seen}
-use Rattle.read.proofs.Seen.{plain_word, peel_word}
+use Rattle.read.proofs.Seen.{peel_word}
 use Rattle.read.proofs.Turn.{plain-told, t-told, turning_start, turning_turn, turning_end}
 use Rattle.read.proofs.+blocks.Goals as goal
 
@@ -17,19 +17,8 @@ parse_one-returns-then-key-eq116 t c =
     let e : key_at _ _ _ ≡ t_key = sym c.key_at-key.ensures ∙ c.if-key-eq116.true in
     rw (tag_t _ _ _ c.args.h e) c.parse_t.ensures
 
-pub parse_one-keep-requires : goal.parse_one-keep-requires
-parse_one-keep-requires t c = (search rules, plain_word _ _ _ _ _ _ _ (search rules) (search rules) (search rules) c.plain_at.ensures)
-
-pub parse_one-returns-then-h : goal.parse_one-returns-then-h
-parse_one-returns-then-h t c =
-    plain-told _ _ _ c.args.h _ _ _ _ _ (λ z. c.if-key-eq116.false (c.key_at-key.ensures ∙ z)) c.if-h.true c.plain_at.ensures c.keep.ensures
-
-pub parse_one-keep-requires-2 : goal.parse_one-keep-requires-2
-parse_one-keep-requires-2 t c = (search rules, plain_word _ _ _ _ _ _ _ (search rules) (search rules) (search rules) c.plain_at-2.ensures)
-
 pub parse_one-returns : goal.parse_one-returns
-parse_one-returns t c =
-    plain-told _ _ _ c.args.h _ _ _ _ _ (λ z. c.if-key-eq116.false (c.key_at-key.ensures ∙ z)) refl c.plain_at-2.ensures c.keep-2.ensures
+parse_one-returns t c = plain-told _ _ _ c.args.h _ _ _ (λ z. c.if-key-eq116.false (c.key_at-key.ensures ∙ z)) c.plain_tag.ensures
 
 -- parse_overrides_depth
 pub parse_overrides_depth-loop-i-init : goal.parse_overrides_depth-loop-i-init
