@@ -1,8 +1,8 @@
 // Scans over a text by positions: classes of bytes, blanks, trimming, the closing parenthesis.
 #![tactic(auto)]
 
-ghost use Rattle.std.specs.Prelude.{◌≡◌, ℕ, ◌+◌, ◌-◌, ◌^◌, ◌≤◌, ◌<◌, min, length, get_or, not, eqb, ltb};
-ghost use Rattle.scan.specs.Scan.{both as both_of, either as either_of, lower as lower_of, digit_of, below as below_of, is_blank, blank_at, blank_before, span_to, back_to, trim_start, trim_end, past as past_to, opened as opened_by, closing_to, Place};
+ghost use Rattle.std.specs.Prelude.{◌≡◌, ℕ, ◌+◌, ◌-◌, ◌^◌, ◌≤◌, ◌<◌, min, length, get_or, ltb};
+ghost use Rattle.scan.specs.Scan.{lower as lower_of, digit_of, below as below_of, is_blank, blank_at, blank_before, span_to, back_to, trim_start, trim_end, past as past_to, opened as opened_by, closing_to, Place};
 ghost use Rattle.scan.specs.Inner.{Passed};
 
 mod class;
@@ -209,23 +209,9 @@ pub fn closing(text: &[u8], from: usize, to: usize) -> usize
     i
 }
 
-// What the crates above share, no scan: the lesser of two numbers, and two answers as one value.
+// The lesser of two numbers.
 pub fn least(a: usize, b: usize) -> usize
     ensures { result ≡ min a b }
 {
-    if a <= b { a } else { b }
-}
-
-// For the compiler (MEASURED, Shapes for the compiler): two answers as one value, where `&&` would branch.
-pub fn both(a: bool, b: bool) -> bool
-    ensures { result ≡ both_of a b }
-{
-    if a { b } else { false }
-}
-
-// For the compiler (MEASURED, Shapes for the compiler): two answers as one value, where `||` would branch.
-pub fn either(a: bool, b: bool) -> bool
-    ensures { result ≡ either_of a b }
-{
-    if a { true } else { b }
+    a.min(b)
 }
