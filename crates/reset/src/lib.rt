@@ -9,10 +9,18 @@ ghost use Rattle.state.specs.State.{reset_to};
 ghost use Rattle.state.specs.Apply.{evaluate_at};
 ghost use Rattle.reset.specs.Reset.{Leaves};
 
-use state::OptReset;
+use apply::values::reset_of;
+use state::Part;
 
 // What the tags of the `count` records from `first` on make of s, one after the other. A T that has not begun changes nothing.
-fn reset_tags(table: &[u32], first: usize, count: usize, s: OptReset, t: i32, dur: i32) -> OptReset
+fn reset_tags(
+    table: &[u32],
+    first: usize,
+    count: usize,
+    s: Option<Option<Part>>,
+    t: i32,
+    dur: i32,
+) -> Option<Option<Part>>
     requires { Inside table.now first count }
     ensures { Leaves t dur (tags_at table.now first count) s result }
 {
@@ -21,27 +29,27 @@ fn reset_tags(table: &[u32], first: usize, count: usize, s: OptReset, t: i32, du
     let mut left = count;
     while 0 < left {
         let r = table::record_at(table, at);
-        let kind = r.kind;
         at += 1;
         left -= 1;
-        if kind == 41 {
-            reset = apply::values::reset_of(r.w1, r.w2, r.w3);
-        } else if kind == 49 {
-            let inner = at;
-            let n = scan::least(r.w5 as usize, left);
-            at += n;
-            left -= n;
-            if mix::factor(r.w1, r.w2, r.w3, r.w4, t, dur) > 0.0 {
-                reset = reset_tags(table, inner, n, reset, t, dur);
+        match r.kind {
+            41 => reset = Some(reset_of(r.w1, r.w2, r.w3)),
+            49 => {
+                let n = (r.w5 as usize).min(left);
+                if mix::factor(r.w1, r.w2, r.w3, r.w4, t, dur) > 0.0 {
+                    reset = reset_tags(table, at, n, reset, t, dur);
+                }
+                at += n;
+                left -= n;
             }
+            _ => {}
         }
     }
     reset
 }
 
 // What \r has left of a table's tags at t.
-pub fn reset_left(table: &[u32], t: i32, dur: i32) -> OptReset
+pub fn reset_left(table: &[u32], t: i32, dur: i32) -> Option<Option<Part>>
     ensures { result ≡ reset_to (evaluate_at t dur (tags_of table.now)) }
 {
-    reset_tags(table, 0, table.len() / 8, OptReset::None, t, dur)
+    reset_tags(table, 0, table.len() / 8, None, t, dur)
 }

@@ -3,32 +3,31 @@ use lib.Ieee.{of_bits}
 use mir.Syntax.{w32}
 use mir.ValLaws.{to_z-of_z}
 use borrow.Author.Tests.{ne_eqb}
-use Rattle.reset.proofs.Turns.{loop_start, loop_done, loop_plain, loop_begun, loop_not_begun}
+use Rattle.reset.proofs.Turns.{loop_done, loop_plain, loop_begun, loop_not_begun}
+use Rattle.reset.proofs.+reset_tags.Goals.{then-factor, else-factor}
 use Rattle.reset.proofs.+reset_tags.Goals as goal
 
 -- reset_tags
-pub loop-left-init : goal.loop-left-init
-loop-left-init t c = loop_start
-
 -- an R
-pub loop-left-preserved-then-kind-eq41 : goal.loop-left-preserved-then-kind-eq41
-loop-left-preserved-then-kind-eq41 t c =
-    let e = c.if-kind-eq41.true in
-    loop_plain c.loop-left.invariant c.loop-left-test.true c.record_at-r.ensures (λ h. omega (arith, e)) (rw e c.reset_of-reset.ensures)
+pub loop-left-preserved-in-41 : goal.loop-left-preserved-in-41
+loop-left-preserved-in-41 t c =
+    loop_plain c.loop-left.invariant c.loop-left-test.true c.record_at-r.ensures (λ h. omega (arith, c.in-41.is)) (rw (c.in-41.is, c.reset_of.ensures))
 
-pub loop-left-preserved-then-factor : goal.loop-left-preserved-then-factor
+-- a T
+pub loop-left-preserved-in-49 : goal.loop-left-preserved-in-49
 unfolding of_bits
-loop-left-preserved-then-factor t c =
-    loop_begun c.loop-left.invariant c.loop-left-test.true c.record_at-r.ensures c.if-kind-eq49.true c.least-n.ensures c.factor.ensures c.if-factor.true c.reset_tags-reset.ensures
-
-pub loop-left-preserved-else-factor : goal.loop-left-preserved-else-factor
-unfolding of_bits
-loop-left-preserved-else-factor t c =
-    loop_not_begun c.loop-left.invariant c.loop-left-test.true c.record_at-r.ensures c.if-kind-eq49.true c.least-n.ensures c.factor.ensures c.if-factor.false
+loop-left-preserved-in-49 t c =
+    let l = c.loop-left.invariant in
+    let h = c.loop-left-test.true in
+    let i = c.record_at-r.ensures in
+    elim c.if-factor.branch [
+      | then-factor w ↦ rw w.reset-is (loop_begun l h i c.in-49.is c.min-n.ensures c.factor.ensures w.if-factor.true w.reset_tags-reset.ensures)
+      | else-factor w ↦ rw w.reset-is (loop_not_begun l h i c.in-49.is c.min-n.ensures c.factor.ensures w.if-factor.false)
+    ]
 
 pub loop-left-preserved : goal.loop-left-preserved
 loop-left-preserved t c =
-    loop_plain c.loop-left.invariant c.loop-left-test.true c.record_at-r.ensures c.if-kind-eq49.false (rw (ne_eqb _ _ c.if-kind-eq41.false))
+    loop_plain c.loop-left.invariant c.loop-left-test.true c.record_at-r.ensures (λ h. grind arith) (rw (ne_eqb c.record_at-r.result.kind 41 (λ h. grind arith)))
 
 pub returns : goal.returns
 returns t c =
