@@ -4,8 +4,10 @@
 ghost use Rattle.std.specs.Prelude.{◌≡◌, ◌/◌, ◌%◌, ◌^◌, ◌<◌, ◌≤◌, T};
 ghost use Rattle.std.specs.Float.Ieee as Ieee;
 ghost use Rattle.float.specs.Float.{zero, one};
-ghost use Rattle.root.specs.Inner.{Digits, part};
+ghost use Rattle.root.specs.Inner.{part};
 ghost use Rattle.power.specs.Power.{times, if_one, roots, steps, power256, power_up, power};
+
+use root::Significand;
 
 // 256 times a, cut down to a whole number, at most 64 * 256.
 #[tactic(auto, using(crate::proofs::Steps::below_64, crate::proofs::Steps::from_64))]
@@ -43,22 +45,22 @@ fn times_digit(p: f32, y: f32, v: u32, d: u32) -> f32
 
 // p with v's d lowest binary digits, starting from the f32 whose digits are m, two roots a turn.
 #[tactic(auto, using(crate::proofs::Law::shifted_pos, crate::proofs::Law::some_digits, crate::proofs::Law::near_step, crate::proofs::Law::roots_end))]
-fn near_one(m: u64, v: u32, d: u32, whole: f32) -> f32
-    requires { Digits m × (d ≤ 8) }
-    ensures { result ≡ roots d v (part m) whole }
+fn near_one(m: Significand, v: u32, d: u32, whole: f32) -> f32
+    requires { d ≤ 8 }
+    ensures { result ≡ roots d v (part m.digits) whole }
 {
     let mut p = whole;
     let mut r = m;
     let mut i = d;
     while v % (1 << i) > 0 {
-        let g = root::first_root(r);
+        let first = r.first_root();
         i -= 1;
-        r = g.digits;
-        p = times_digit(p, root::of_digits(r), v, i);
+        r = first.root;
+        p = times_digit(p, r.to_f32(), v, i);
         if v % (1 << i) > 0 {
             i -= 1;
-            r = root::root_digits(r, g.next);
-            p = times_digit(p, root::of_digits(r), v, i);
+            r = r.root(first.next);
+            p = times_digit(p, r.to_f32(), v, i);
         }
     }
     p
@@ -73,7 +75,7 @@ fn fraction(x: f32, v: u32, whole: f32) -> f32
     let mut r = x;
     let mut d: u32 = 8;
     while v % (1 << d) > 0 {
-        if let Some(m) = root::digits_of(r) {
+        if let Some(m) = Significand::of_f32(r) {
             return near_one(m, v, d, p);
         }
         d -= 1;
