@@ -217,12 +217,15 @@ fn t_record(h: Heads, n: u32) -> Record
     ensures { result ≡ t_words h n }
 {
     let [a, b, c] = h.words;
-    match h.count {
-        0 => Record::of(49, [0, 0, 0, ONE, n]),
-        1 => Record::of(49, [0, 0, 0, a, n]),
-        2 => Record::of(49, [1, plain::time_of(a), plain::time_of(b), ONE, n]),
-        _ => Record::of(49, [1, plain::time_of(a), plain::time_of(b), c, n]),
+    let accel = match h.count {
+        0 | 2 => ONE,
+        1 => a,
+        _ => c,
+    };
+    if h.count < 2 {
+        return Record::of(49, [0, 0, 0, accel, n]);
     }
+    Record::of(49, [1, plain::time_of(a), plain::time_of(b), accel, n])
 }
 
 // What a plain tag gives, its record into the front of the table.
