@@ -30,7 +30,7 @@ impl From<Cs> for Ms {
 
 impl Ms {
     // The sum, at most the greatest.
-    pub fn saturating_add(self, other: Ms) -> Ms
+    fn saturating_add(self, other: Ms) -> Ms
         ensures { result ≡ plus self other }
     {
         Ms(self.0.saturating_add(other.0))
@@ -49,7 +49,7 @@ pub struct KaraokeSpan {
 
 // The spans from a record on, the first of which begins where the one before it ended.
 #[derive(Drop)]
-pub struct Walk<'a> {
+struct Walk<'a> {
     table: &'a [u32],
     at: usize,
     start_ms: Ms,
@@ -57,7 +57,7 @@ pub struct Walk<'a> {
 
 impl<'a> Walk<'a> {
     // All spans of a table.
-    pub fn of(table: &'a [u32]) -> Walk<'a>
+    fn of(table: &'a [u32]) -> Walk<'a>
         ensures { spans_left result ≡ all_spans table.now }
     {
         Walk {

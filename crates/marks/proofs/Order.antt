@@ -59,9 +59,6 @@ lt_le_z {a} {b} h = is_false (le_z a b) (λ e. clash_ℤ h (le_z_true e))
 pub le_lt_z : {a b : ℤ} → b ≤ℤ a → lt_z a b ≡ false
 le_lt_z {a} {b} h = is_false (lt_z a b) (λ e. clash_ℤ (lt_z_true e) h)
 
-pub lt_z_false : {a b : ℤ} → lt_z a b ≡ false → b ≤ℤ a
-lt_z_false {a} {b} e = ⊎_elim (λ h. h) (λ h. absurd (true≢false (sym (lt_lt_z h) ∙ e))) (total b a)
-
 -- ---- transitive
 
 weaker : (a b : ℤ) → T (lt_z a b) → T (le_z a b)
@@ -78,9 +75,6 @@ pub ≤ℤ-trans : {a b c : ℤ} → a ≤ℤ b → b ≤ℤ c → a ≤ℤ c
 
 pub ≤ℤ-<ℤ-trans : {a b c : ℤ} → a ≤ℤ b → b <ℤ c → a <ℤ c
 ≤ℤ-<ℤ-trans {a} {b} {c} h k = ⊎_elim (λ g. clash_ℤ k (≤ℤ-trans g h)) (λ g. g) (total c a)
-
-pub <ℤ-trans : {a b c : ℤ} → a <ℤ b → b <ℤ c → a <ℤ c
-<ℤ-trans h k = <ℤ-≤ℤ_trans h (<ℤ-≤ℤ k)
 
 -- ---- the same number
 

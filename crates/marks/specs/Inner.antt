@@ -10,10 +10,6 @@ use Rattle.marks.specs.Marks.{Interval, ramp, single, own_marks}
 abbrev pub most : ℕ
 most = 2147483647
 
--- those of a \fad that goes out for longer than the line lasts
-abbrev pub early_marks : Interval
-early_marks = record { begins = pos 0; ends = pos 1 }
-
 -- a way and a stage: a ramp, or one mark where its end does not come after its start
 abbrev pub stretch : ℤ → ℤ → ℤ → Interval
 stretch a b one = pick (le_z b a) (single one) (ramp a b)
