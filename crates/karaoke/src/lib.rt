@@ -215,9 +215,10 @@ fn put_span(words: &mut [u32], k: usize, s: KaraokeSpan)
     requires { k + 3 ≤ length words.old }
     ensures { words.new ≡ take k words.old ++ laid_spans (drop k words.old) (s ∷ []) }
 {
-    words[k] = u32::from(s.kind);
-    words[k + 1] = s.start_ms.0;
-    words[k + 2] = s.end_ms.0;
+    rows::put(
+        &mut words[k..],
+        [u32::from(s.kind), s.start_ms.0, s.end_ms.0],
+    );
 }
 
 // 01, Karaoke, for the C interface: the spans of the tags that the table stands for, three words each, into the lent words.

@@ -1,5 +1,6 @@
+use native.Mathlib.Omega.{arith}
 use Rattle.karaoke.proofs.Filling.{put-at}
 use Rattle.karaoke.proofs.put_span.Goals as goal
 
 pub returns : goal.returns
-returns c = rw c.from.ensures (put-at _ _ c.args.s c.requires)
+returns c = put-at c.args.k c.args.words.now _ c.args.s (omega (arith, c.requires)) (rw c.from.ensures at c.put.ensures)
