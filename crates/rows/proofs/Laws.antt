@@ -2,7 +2,7 @@
 use mathlib.Core.Path.{◌≡◌, refl, sym, ap, ◌∙◌}
 use mathlib.Core.List.{List, [], ◌∷◌, ◌++◌, append_assoc, append-nil}
 use mathlib.Core.Logic.{⊎_elim}
-use lib.Seq.{sets, sets-eq, take_all, drop-length, drop-drop, length-take-le, drop_at, take-append-add, drop-append-add}
+use lib.Seq.{take_all, drop-length, drop-drop, length-take-le, drop_at, take-append-add, drop-append-add}
 use Prim.Native.Nat.{ℕ, ◌+◌, ◌-◌, ◌*◌, ◌≤◌, ◌<◌, min}
 use native.Mathlib.Omega.{arith}
 use lib.ListN.{length, take, drop, length-append, length-drop, take-append-drop}
@@ -103,13 +103,3 @@ module _ {A : Type 0} (w : ℕ) (words : A → List ℕ) where
         ∙ sym (ap (λ (j : ℕ). take j (take m t ++ laid (drop m t) g) ++ laid (drop j (take m t ++ laid (drop m t) g)) rs) z
         ∙ ap (λ (l : List ℕ). l ++ laid (drop (length (take m t) + (m' - m)) (take m t ++ laid (drop m t) g)) rs) tk
         ∙ ap (λ (l : List ℕ). (take m t ++ take (m' - m) (laid (drop m t) g)) ++ laid l rs) dr)
-
-    -- words stored one after the other from the front on are a row
-    pub put_room : (t : List ℕ) (r : A) → w ≤ length t → sets t 0 (words r) ≡ laid t (r ∷ [])
-    put_room t r h =
-        let l : 0 + length (words r) ≤ length t = omega (arith, wide r) in
-        let z : 0 + length (words r) ≡ w = omega (arith, wide r) in
-        sets-eq (words r) t 0 l ∙ rw (laid_more t r [] h, laid_nil (drop w t), z)
-
-    pub put_none : (t : List ℕ) (r : A) → length t < w → t ≡ laid t (r ∷ [])
-    put_none t r h = sym (laid-short t (r ∷ []) h)
