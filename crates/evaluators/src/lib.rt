@@ -59,6 +59,7 @@ pub fn apply_tags(
     let mut post = st;
     let mut at = first;
     let end = first + count;
+    // No `for`: behind a T the place goes on past what is inside it.
     while at < end {
         let r = table::record_at(table, at);
         // For the compiler (MEASURED, Shapes for the compiler): an arm asks the test of its kind by name.

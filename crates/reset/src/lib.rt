@@ -27,6 +27,7 @@ fn reset_tags(
     let mut reset = s;
     let mut at = first;
     let mut left = count;
+    // No `for`: behind a T the place goes on past what is inside it.
     while 0 < left {
         let r = table::record_at(table, at);
         at += 1;

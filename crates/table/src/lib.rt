@@ -243,6 +243,7 @@ fn fault(table: &[u32], from: usize, count: usize, deep: usize) -> Result<(), Re
 {
     let mut at = from;
     let mut left = count;
+    // No `for`: behind a T the place goes on past what is inside it.
     while 0 < left {
         let r = record_at(table, at);
         if !stands(r, left - 1, deep) {
