@@ -13,16 +13,11 @@ use lib.Seq.{take_all}
 use borrow.Author.Tests.{le-leb, lt-leb, leb-true, leb-false}
 use Rattle.scan.specs.Scan.{pick}
 use Rattle.scan.proofs.Laws.{le_or_lt}
-use Rattle.lists.specs.declared.Found.{Found}
-use Rattle.lists.specs.declared.Found.TheVariants.{Nowhere, At}
-use Rattle.refusal.specs.Refusal.{number_of, most_places, text_ground}
-use Rattle.refusal.specs.Answer.{first_ground, room_for, unless_bad}
+use Rattle.refusal.specs.Refusal.{Checked, number_of, most_places, text_ground}
+use Rattle.std.specs.Prelude.{Option, Some, None, Ok, Err}
+use Rattle.refusal.specs.Answer.{Answer, first_ground, room_for, unless_bad}
 use Rattle.refusal.specs.declared.Refusal.{Refusal}
 use Rattle.refusal.specs.declared.Refusal.TheVariants.{TextTooLong, NotAscii, NumeralTooLong, FadeTooFar, TableMalformed, TimeOutOfRange, ScaleTooLarge, NameBeyondText, NoRoom}
-use Rattle.refusal.specs.declared.Checked.{Checked}
-use Rattle.refusal.specs.declared.Checked.TheVariants.{Good, Bad}
-use Rattle.refusal.specs.declared.Answer.{Answer}
-use Rattle.refusal.specs.declared.Answer.TheVariants.{Written, Refused}
 use Rattle.tag.specs.Tag.{Tags, count}
 use Rattle.tag.specs.Table.{places_of}
 use Rattle.tag.proofs.Formed.{formed-ground}
@@ -36,10 +31,7 @@ use Rattle.table.specs.Ground.{InTime, time_ground, Fine, call_ground_to, call_g
 use Rattle.table.proofs.Grounds.{fine-good}
 use Rattle.state.specs.Apply.{evaluate_at}
 use Rattle.words.specs.Words.{state_words}
-use Rattle.evaluate.specs.declared.Evaluated.{Evaluated}
 use Rattle.evaluate.specs.Evaluate.{evaluated_to, evaluated}
-use Rattle.marks.specs.declared.Mark.{Mark}
-use Rattle.marks.specs.declared.Marked.{Marked}
 use Rattle.marks.specs.Answer.{marked_to, marked}
 use Rattle.marks.specs.Marks.{marks, NoMark, next_mark}
 use Rattle.marks.proofs.Earliest.{next-earliest}
@@ -56,22 +48,22 @@ use Rattle.animate.specs.Inner.{records_in, Saw, Ran}
 -- ---- refusals and space
 
 -- the answer, from the grounds, the count and the places
-abbrev out : Checked → Found → Found → ℕ → ℕ → Answer
+abbrev out : Checked → Option ℕ → Option ℕ → ℕ → ℕ → Answer
 out c l f n p = unless_bad c (read_ground l f n p)
 
-refused-out : (c : Checked) (l f : Found) (n p : ℕ) (g : Refusal) → first_ground c (first_ground (long_ground l) (far_ground f)) ≡ Bad g → out c l f n p ≡ Refused g
+refused-out : (c : Checked) (l f : Option ℕ) (n p : ℕ) (g : Refusal) → first_ground c (first_ground (long_ground l) (far_ground f)) ≡ Err g → out c l f n p ≡ Err g
 unfolding read_ground
-refused-out (Bad b) l f n p g e = cc
-refused-out Good (At a) f n p g e = cc
-refused-out Good Nowhere (At a) n p g e = cc
-refused-out Good Nowhere Nowhere n p g e = absurd (let z : ◌≡◌ {A = ℕ} 0 1 = cc in omega arith)
+refused-out (Err b) l f n p g e = cc
+refused-out (Ok _) (Some a) f n p g e = cc
+refused-out (Ok _) None (Some a) n p g e = cc
+refused-out (Ok _) None None n p g e = absurd (let z : ◌≡◌ {A = ℕ} 0 1 = cc in omega arith)
 
-space-out : (c : Checked) (l f : Found) (n p : ℕ) → first_ground c (first_ground (long_ground l) (far_ground f)) ≡ Good → out c l f n p ≡ room_for n p
+space-out : (c : Checked) (l f : Option ℕ) (n p : ℕ) → first_ground c (first_ground (long_ground l) (far_ground f)) ≡ Ok tt → out c l f n p ≡ room_for n p
 unfolding read_ground
-space-out (Bad b) l f n p e = absurd (let z : ◌≡◌ {A = ℕ} 0 1 = cc in omega arith)
-space-out Good (At a) f n p e = absurd (let z : ◌≡◌ {A = ℕ} 0 1 = cc in omega arith)
-space-out Good Nowhere (At a) n p e = absurd (let z : ◌≡◌ {A = ℕ} 0 1 = cc in omega arith)
-space-out Good Nowhere Nowhere n p e = refl
+space-out (Err b) l f n p e = absurd (let z : ◌≡◌ {A = ℕ} 0 1 = cc in omega arith)
+space-out (Ok _) (Some a) f n p e = absurd (let z : ◌≡◌ {A = ℕ} 0 1 = cc in omega arith)
+space-out (Ok _) None (Some a) n p e = absurd (let z : ◌≡◌ {A = ℕ} 0 1 = cc in omega arith)
+space-out (Ok _) None None n p e = refl
 
 -- every ground has a number
 numbered : (g : Refusal) → ¬ (number_of g ≡ 0)
@@ -87,8 +79,8 @@ numbered (NoRoom n) e = omega arith
 
 -- a number that names a mark, or none, is no refusal
 named : (w : ℕ) (m : Mark) → Names w m → word_ground w ≡ 0
-named w Mark.None n = n.ground
-named w (Mark.At a) n = n.0.ground
+named w None n = n.ground
+named w (Some a) n = n.0.ground
 
 -- so many words of a list, or all of it where it has fewer
 pub take-least : (n m : ℕ) (l : List ℕ) → m ≡ min n (length l) → take m l ≡ take n l
@@ -112,11 +104,11 @@ module _ (s : List ℕ) (x : Span) (inside : SpanIn s x) (t u dur : ℤ) where
     abbrev places : ℕ
     places = places_of a.table
 
-    refused : (g : Refusal) → other_ground s x ≡ Bad g → Refuses r.reading g
+    refused : (g : Refusal) → other_ground s x ≡ Err g → Refuses r.reading g
     unfolding other_ground
     refused g e = rw (is-out places ∙ refused-out (text_ground s) (block_of s x).long (block_of s x).far (count l) places g e) at ran.reading.answered
 
-    space : other_ground s x ≡ Good → Space (count l) (counted a) r.reading
+    space : other_ground s x ≡ Ok tt → Space (count l) (counted a) r.reading
     unfolding other_ground
     space e =
         let k = rw (is-out places ∙ space-out (text_ground s) (block_of s x).long (block_of s x).far (count l) places e) at ran.reading.answered in
@@ -126,16 +118,16 @@ module _ (s : List ℕ) (x : Span) (inside : SpanIn s x) (t u dur : ℤ) where
     only no9 no0 = go (other_ground s x) refl
       where
         go : (c : Checked) → other_ground s x ≡ c → FromText s x r.reading
-        go (Bad g) e = record { ground = g; stands = e; told = refused g e }
-        go Good e = absurd (⊎_elim (λ h. no9 ((space e).fits h).ground) (λ h. no0 ((space e).lacks h).ground) (le_or_lt (count l) (counted a)))
+        go (Err g) e = record { ground = g; stands = e; told = refused g e }
+        go (Ok _) e = absurd (⊎_elim (λ h. no9 ((space e).fits h).ground) (λ h. no0 ((space e).lacks h).ground) (le_or_lt (count l) (counted a)))
 
     -- by the answer, which the number has whole
-    answered_by : {P : Type 0} → ((n : ℕ) → answer s x places ≡ Written n → Unpacks r.reading 0 0 n → P) → ((g : Refusal) → answer s x places ≡ Refused g → Refuses r.reading g → P) → P
+    answered_by : {P : Type 0} → ((n : ℕ) → answer s x places ≡ Ok n → Unpacks r.reading 0 0 n → P) → ((g : Refusal) → answer s x places ≡ Err g → Refuses r.reading g → P) → P
     answered_by {P} f g = go (answer s x places) refl ran.reading.answered
       where
         go : (b : Answer) → answer s x places ≡ b → SaysAnswer r.reading b → P
-        go (Written n) e k = f n e k
-        go (Refused b) e k = g b e k
+        go (Ok n) e k = f n e k
+        go (Err b) e k = g b e k
 
     untouched : ¬ (word_ground r.reading ≡ 0) → a' ≡ a
     unfolding after
@@ -166,7 +158,7 @@ module _ (s : List ℕ) (x : Span) (inside : SpanIn s x) (t u dur : ℤ) where
         rw (m, ran.reading.table) h)
         (λ g e k. absurd (numbered g (sym k.ground ∙ z)))
       where
-        few-out : (n : ℕ) → answer s x places ≡ Written n → n ≤ most_places
+        few-out : (n : ℕ) → answer s x places ≡ Ok n → n ≤ most_places
         few-out n e = (rw e at (few_read s x places))
 
   module _ {ws : List ℕ} (h : Holds ws l) (i : ℤ) where
@@ -175,7 +167,7 @@ module _ (s : List ℕ) (x : Span) (inside : SpanIn s x) (t u dur : ℤ) where
       fine : Fine ws i dur
       fine = record { formed = h.formed; instant = k; duration = d }
 
-      is_state : evaluated ws i dur ≡ Evaluated.State (evaluate_at i dur l)
+      is_state : evaluated ws i dur ≡ Ok (evaluate_at i dur l)
       unfolding evaluated_to
       is_state = rw (fine-good ws i dur fine, h.tags)
 
@@ -189,16 +181,16 @@ module _ (s : List ℕ) (x : Span) (inside : SpanIn s x) (t u dur : ℤ) where
       answers = (rw is_state at saw.state.answered, named p.next (next_mark i dur l) next-is)
 
     -- out of range it is refused
-    module _ (g : Refusal) (k : time_ground i dur ≡ Bad g) {v w : List ℕ} {p : Seen} (saw : Saw ws i dur v p w) where
-      bad : call_ground ws i dur ≡ Bad g
+    module _ (g : Refusal) (k : time_ground i dur ≡ Err g) {v w : List ℕ} {p : Seen} (saw : Saw ws i dur v p w) where
+      bad : call_ground ws i dur ≡ Err g
       unfolding call_ground_to
       bad = rw (formed-ground ws h.formed, k)
 
-      is-refused : evaluated ws i dur ≡ Evaluated.Refused g
+      is-refused : evaluated ws i dur ≡ Err g
       unfolding evaluated_to
       is-refused = rw bad
 
-      no_mark : marked ws i dur ≡ Marked.Refused g
+      no_mark : marked ws i dur ≡ Err g
       unfolding marked_to
       no_mark = rw bad
 
@@ -226,8 +218,8 @@ module _ (s : List ℕ) (x : Span) (inside : SpanIn s x) (t u dur : ℤ) where
       hq = held q h.b
 
       late : (g : Refusal) →
-          (time_ground t dur ≡ Bad g → LateAt g r.a.one r.b.one × (a'.one ≡ a.one) × (b'.one ≡ b.one)) ×
-          (time_ground u dur ≡ Bad g → LateAt g r.a.other r.b.other × (a'.other ≡ a.other) × (b'.other ≡ b.other))
+          (time_ground t dur ≡ Err g → LateAt g r.a.one r.b.one × (a'.one ≡ a.one) × (b'.one ≡ b.one)) ×
+          (time_ground u dur ≡ Err g → LateAt g r.a.other r.b.other × (a'.other ≡ a.other) × (b'.other ≡ b.other))
       late g = (
         λ k. let v = p.one h.a in let w = q.one h.b in (record { a = refuses hp t g k v; b = refuses hq t g k w }, unwritten hp t g k v, unwritten hq t g k w),
         λ k. let v = p.other h.a in let w = q.other h.b in (record { a = refuses hp u g k v; b = refuses hq u g k w }, unwritten hp u g k v, unwritten hq u g k w),

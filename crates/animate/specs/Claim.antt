@@ -4,17 +4,13 @@
 -- state and for the next mark. The numbers that the calls gave are r; what the controllers lent was a and b before, and is a' and b'
 -- afterwards. All that the answers are held to comes from the text, the duration and the instants. The sentences of demand 3 stand
 -- beside the fields, in their order; 01 says under "What demand 3 speaks of" what their words mean.
-use Rattle.std.specs.Prelude.{◌≡◌, List, Bool, true, false, ℕ, ◌≤◌, ◌<◌, min, ℤ}
+use Rattle.std.specs.Prelude.{◌≡◌, List, Bool, true, false, ℕ, ◌≤◌, ◌<◌, min, ℤ, Option, Some, None, Ok, Err}
 use Rattle.std.specs.Int.Signed.{le_z}
 use Rattle.scan.specs.Scan.{pick}
-use Rattle.lists.specs.declared.Found.{Found}
-use Rattle.lists.specs.declared.Found.TheVariants.{Nowhere, At}
-use Rattle.refusal.specs.Refusal.{number_of, place_of, most_places, text_ground}
+use Rattle.refusal.specs.Refusal.{Checked, number_of, place_of, most_places, text_ground}
 use Rattle.refusal.specs.Answer.{first_ground}
 use Rattle.refusal.specs.declared.Refusal.{Refusal}
 use Rattle.refusal.specs.declared.Refusal.TheVariants.{NumeralTooLong, FadeTooFar}
-use Rattle.refusal.specs.declared.Checked.{Checked}
-use Rattle.refusal.specs.declared.Checked.TheVariants.{Good, Bad}
 use Rattle.tag.specs.Tag.{Tags, count}
 use Rattle.tag.specs.Table.{places_of}
 use Rattle.read.specs.declared.Span.{Span}
@@ -41,13 +37,13 @@ abbrev pub block_tags : List ℕ → Span → Tags
 block_tags s x = (block_of s x).tags
 
 -- ground 3 of a block, and 4
-abbrev pub long_ground : Found → Checked
-long_ground (At p) = Bad (NumeralTooLong p)
-long_ground Nowhere = Good
+abbrev pub long_ground : Option ℕ → Checked
+long_ground (Some p) = Err (NumeralTooLong p)
+long_ground None = Ok tt
 
-abbrev pub far_ground : Found → Checked
-far_ground (At p) = Bad (FadeTooFar p)
-far_ground Nowhere = Good
+abbrev pub far_ground : Option ℕ → Checked
+far_ground (Some p) = Err (FadeTooFar p)
+far_ground None = Ok tt
 
 -- all grounds but space, in checking order: 1 and 2 of the text, then these
 unfoldable pub other_ground : List ℕ → Span → Checked
@@ -71,14 +67,14 @@ pub record Lent : Type 0 where
 abbrev pub lent : List ℕ → List ℕ → List ℕ → Lent
 lent table one other = record { table = table; one = one; other = other }
 
--- the number w refuses for g: "Refused alike means the same number and place"
+-- the number w refuses for g: "Err alike means the same number and place"
 abbrev pub Refuses : ℕ → Refusal → Type 0
 Refuses w g = Unpacks w (number_of g) 0 (place_of g)
 
 -- a reading refused for something other than space: that ground comes from the text
 pub record FromText (s : List ℕ) (x : Span) (w : ℕ) : Type 0 where
   pub ground : Refusal
-  pub stands : other_ground s x ≡ Bad ground
+  pub stands : other_ground s x ≡ Err ground
   pub told : Refuses w ground
 
 abbrev pub OnlyFromText : List ℕ → Span → ℕ → Type 0
@@ -137,16 +133,16 @@ pub record Shown (l : Tags) (t u dur : ℤ) (r : Both) (a' b' : Lent) : Type 0 w
 
 pub record Agreed (s : List ℕ) (x : Span) (a b : Lent) (t u dur : ℤ) (r : Both) (a' b' : Lent) : Type 0 where
   -- "same refusals": refused for anything but space exactly when the text has one of the other grounds, and then alike by both
-  pub refused : (g : Refusal) → other_ground s x ≡ Bad g → Refuses r.a.reading g × Refuses r.b.reading g
+  pub refused : (g : Refusal) → other_ground s x ≡ Err g → Refuses r.a.reading g × Refuses r.b.reading g
   pub only : OnlyFromText s x r.a.reading × OnlyFromText s x r.b.reading
   -- and where a time is out of range, which only the calls behind the reading look at
   pub late : Hold r → (g : Refusal) →
-      (time_ground t dur ≡ Bad g → LateAt g r.a.one r.b.one × (a'.one ≡ a.one) × (b'.one ≡ b.one)) ×
-      (time_ground u dur ≡ Bad g → LateAt g r.a.other r.b.other × (a'.other ≡ a.other) × (b'.other ≡ b.other))
+      (time_ground t dur ≡ Err g → LateAt g r.a.one r.b.one × (a'.one ≡ a.one) × (b'.one ≡ b.one)) ×
+      (time_ground u dur ≡ Err g → LateAt g r.a.other r.b.other × (a'.other ≡ a.other) × (b'.other ≡ b.other))
   -- demand 1: "after a refusal lent memory is untouched"
   pub untouched : (¬ (word_ground r.a.reading ≡ 0) → a' ≡ a) × (¬ (word_ground r.b.reading ≡ 0) → b' ≡ b)
   -- "space refused exactly when kept tags exceed places (1,024 count) with the exact count"
-  pub space : other_ground s x ≡ Good →
+  pub space : other_ground s x ≡ Ok tt →
       let n = count (block_tags s x) in
       Space n (counted a) r.a.reading × Space n (counted b) r.b.reading
   -- "and where both hold the block, for every duration and any two instants": what they show

@@ -43,15 +43,14 @@ fn read_block(text: &[u8], raw: bool, table: &mut [u32]) -> u64
 fn words_in(r: u64) -> usize
     ensures { result ≡ words_in r }
 {
-    8 * scan::least((r % 4294967296) as usize, 1024)
+    8 * ((r % 4294967296) as usize).min(1024)
 }
 
 // What a table answers at t on its first n words.
 fn look(table: &[u32], n: usize, t: i32, dur: i32, state: &mut [u32; 92]) -> Seen
     ensures { Saw (take n table.now) t dur state.old result state.new }
 {
-    let m = scan::least(n, table.len());
-    let part = &table[0..m];
+    let part = &table[..n.min(table.len())];
     let evaluated = hannuvel::hannuvel_evaluate_at(part, t, dur, state);
     let next = hannuvel::hannuvel_next_mark(part, t, dur);
     Seen { evaluated, next }
