@@ -1,5 +1,5 @@
 -- 01, Sheet: its rows P, all under one theorem, each computed from the text by the definitions.
-use Rattle.std.specs.Prelude.{◌≡◌, refl, List, [], ◌∷◌, map, ℕ, pos, length, Float}
+use Rattle.std.specs.Prelude.{◌≡◌, refl, List, [], ◌∷◌, map, ℕ, ℤ, pos, length, Float, Option, Some, None}
 use Prim.Native.String.{String}
 use Rattle.std.specs.Float.{binary32}
 use Rattle.std.specs.Float.Ieee.{round, to_bits, of_bits, of_int, to_signed, add, mul, div, sum}
@@ -16,10 +16,7 @@ use Rattle.plain.specs.Names.{names, lookup, lowered, key_at}
 use Rattle.plain.specs.Plain.{part, f32s, i32s, all_floats, floats_in, all_ints, ints_in, unless_long, pair_of, move_of, fad_of, fade_of, ranged_of, weight_of, flag_of, clip_of, reset_of, shaped, is_fn, is_named_reset, plain_at_lem}
 use Rattle.read.specs.Block.{param_at, peel, tag_at, walk as walk_block, t_at, parse}
 use Rattle.read.specs.Reading.{whole_text, block_of}
-use Rattle.state.specs.declared.OptF32.{OptF32}
-use Rattle.state.specs.declared.OptRgb.{OptRgb}
 use Rattle.state.specs.Apply.{apply_own, apply_tags, evaluate_at}
-use Rattle.marks.specs.declared.Mark.{Mark}
 use Rattle.marks.specs.Marks.{Interval, single, marks, next_mark}
 use Rattle.tag.specs.declared.KaraokeKind.{KaraokeKind}
 use Rattle.tag.specs.declared.KaraokeKind.TheVariants.{Fill, Sweep}
@@ -70,7 +67,7 @@ pub data Row : Type 0 where
   opacities : String → ℕ → List (ℕ × Float) → Row
   -- all its marks; the mark after instants
   marked : String → ℕ → List Interval → Row
-  after : String → ℕ → List (ℕ × Mark) → Row
+  after : String → ℕ → List (ℕ × Option ℤ) → Row
   -- its karaoke spans
   sung : String → List KaraokeSpan → Row
   -- the primary colour
@@ -81,12 +78,12 @@ pub data Row : Type 0 where
 abbrev pub Holds : Row → Type 0
 Holds (kinds text ks) = map (λ (r : Record). r.kind) (encode (tags_in text)) ≡ ks
 Holds (counted text n) = length (encode (tags_in text)) ≡ n
-Holds (sizes text dur at) = map (λ (p : ℕ × Float). (evaluate_at (pos p.0) (pos dur) (tags_in text)).sizes.font_size.is) at ≡ map (λ (p : ℕ × Float). OptF32.Some p.1) at
+Holds (sizes text dur at) = map (λ (p : ℕ × Float). (evaluate_at (pos p.0) (pos dur) (tags_in text)).sizes.font_size) at ≡ map (λ (p : ℕ × Float). Some p.1) at
 Holds (opacities text dur at) = map (λ (p : ℕ × Float). (evaluate_at (pos p.0) (pos dur) (tags_in text)).always.alpha_mul) at ≡ map (λ (p : ℕ × Float). p.1) at
 Holds (marked text dur is) = marks (pos dur) (tags_in text) ≡ is
-Holds (after text dur at) = map (λ (p : ℕ × Mark). next_mark (pos p.0) (pos dur) (tags_in text)) at ≡ map (λ (p : ℕ × Mark). p.1) at
+Holds (after text dur at) = map (λ (p : ℕ × Option ℤ). next_mark (pos p.0) (pos dur) (tags_in text)) at ≡ map (λ (p : ℕ × Option ℤ). p.1) at
 Holds (sung text spans) = karaoke_spans (tags_in text) ≡ spans
-Holds (coloured text r g b) = (evaluate_at (pos 0) (pos 0) (tags_in text)).colors.primary_color.is ≡ OptRgb.Some (record { red = r; green = g; blue = b })
+Holds (coloured text r g b) = (evaluate_at (pos 0) (pos 0) (tags_in text)).colors.primary_color ≡ Some (record { red = r; green = g; blue = b })
 Holds (drawn text exponent cs) = map command_words (drawing (bytes text) exponent) ≡ cs
 
 -- ---- the rows
@@ -104,7 +101,7 @@ rows =
     marked "\\fs20\\t(500,500,\\fs40)" 2000 (single (pos 500) ∷ []) ∷
     -- `\fad(200,300)`, duration 1000: 0 at 0, 0.5 at 100, 1 at 700, 0.5 at 850, 0 at 1000; mark after 200 is 701, after 1000 none
     opacities "\\fad(200,300)" 1000 ((0, whole 0) ∷ (100, half) ∷ (700, whole 1) ∷ (850, half) ∷ (1000, whole 0) ∷ []) ∷
-    after "\\fad(200,300)" 1000 ((200, Mark.At (pos 701)) ∷ (1000, Mark.None) ∷ []) ∷
+    after "\\fad(200,300)" 1000 ((200, Some (pos 701)) ∷ (1000, None) ∷ []) ∷
     -- `\k50\kf25`: Fill 0–500, Sweep 500–750; `\t(\k10)`: no span
     sung "\\k50\\kf25" (span Fill 0 500 ∷ span Sweep 500 750 ∷ []) ∷
     sung "\\t(\\k10)" [] ∷
