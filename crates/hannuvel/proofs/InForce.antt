@@ -1,19 +1,18 @@
 -- Of what `hannuvel_style_in_force` returns, the functions of include/hannuvel.h give back the ground, the extra and the value, and the value has the
 -- part's offset and length.
-use mathlib.Core.Path.{◌≡◌, refl, sym, ap, ◌∙◌}
+use mathlib.Core.Path.{◌≡◌, refl}
 use mathlib.Core.Bool.{Bool}
 use mathlib.Core.List.{List}
-use Prim.Native.Nat.{ℕ, ◌+◌, ◌-◌, ◌*◌, ◌/◌, ◌%◌, ◌^◌, ◌≤◌, ◌<◌}
+use Prim.Native.Nat.{ℕ, ◌+◌, ◌-◌, ◌*◌, ◌/◌, ◌%◌, ◌^◌, ◌<◌}
 use native.Mathlib.Omega.{arith}
 use native.Mathlib.Nat.{le_trans, lt_of_le_of_lt, mod-eq_of_lt, mod-lt, div-eq_of_lt, mul-add-div_right, mul-add-mod_self_right, add-zero}
 use lib.Dec.{lit<, lit≤}
 use lib.IntN.{ℤ}
 use Rattle.scan.specs.Scan.{pick}
 use Rattle.scan.proofs.Laws.{picked}
-use Rattle.refusal.specs.Refusal.{Checked, number_of, place_of, most_bytes}
-use Rattle.refusal.specs.Answer.{Answer, first_ground}
+use Rattle.refusal.specs.Refusal.{Checked, number_of, place_of}
 use Rattle.refusal.specs.declared.Refusal.{Refusal}
-use Rattle.std.specs.Prelude.{Result, Ok, Err, Option, Some, None}
+use Rattle.std.specs.Prelude.{Result, Ok, Err}
 use Rattle.tag.specs.Decode.{tags_of}
 use Rattle.tag.specs.Depth.{AtLessDepth}
 use Rattle.tag.proofs.Deeper.{stored_by}
@@ -27,18 +26,18 @@ use Rattle.std.specs.Result.{result_and}
 use Rattle.style.specs.Style.{texts_ground, named, shown}
 use Rattle.style.specs.declared.Place.{Place}
 use Rattle.style.proofs.Places.{Short, texts_short, Fits, named-fits}
-use Rattle.hannuvel.specs.Packed.{word_value, Unpacks, Says}
+use Rattle.hannuvel.specs.Packed.{word_value, Says}
 use Rattle.hannuvel.specs.InForce.{style_of, style_at_to, style_at, ground_of, StyleCall}
 use Rattle.hannuvel.specs.Inner.{packed, answer_word, style_word}
 use Rattle.hannuvel.proofs.Unpacked.{unpacked, plain, Low, call_low}
 
 -- the first ground of the texts and of the call, or what \r has left
 module _ (ws : List ℕ) (t dur : ℤ) (block own : List ℕ) where
-  pub style_is : style_at ws t dur block own ≡ result_and (first_ground (texts_ground block own) (call_ground ws t dur)) (named (reset_to (evaluate_at t dur (tags_of ws))) block own)
+  pub style_is : style_at ws t dur block own ≡ result_and (result_and (texts_ground block own) (call_ground ws t dur)) (named (reset_to (evaluate_at t dur (tags_of ws))) block own)
   unfolding evaluated_to
   style_is = go (texts_ground block own) (call_ground ws t dur) (evaluate_at t dur (tags_of ws))
     where
-      go : (c d : Checked) (st : RenderState) → result_and c (style_of (evaluated_or d st) block own) ≡ result_and (first_ground c d) (named (reset_to st) block own)
+      go : (c d : Checked) (st : RenderState) → result_and c (style_of (evaluated_or d st) block own) ≡ result_and (result_and c d) (named (reset_to st) block own)
       go (Ok _) (Ok _) st = refl
       go (Ok _) (Err r) st = refl
       go (Err r) d st = refl
@@ -85,18 +84,19 @@ style_whole (Ok p) f =
 style_whole (Err r) f = plain (number_of r) (place_of r) f
 
 -- value >> 16 is the offset and value & 0xFFFF the length
-part_back : (a : Result Place Refusal) {r : ℕ} → Fits a → (let p = shown a in Says r (ground_of a) (pick p.of_block 1 0) (p.from * 2 ^ 16 + (p.to - p.from))) → let p = shown a in ground_of a ≡ Ok tt → (word_value r / 2 ^ 16 ≡ p.from) × (word_value r % 2 ^ 16 ≡ p.to - p.from)
-part_back (Ok p) f u e =
+part_back : (a : Result Place Refusal) (r : ℕ) → Fits a → (let p = shown a in Says r (ground_of a) (pick p.of_block 1 0) (p.from * 2 ^ 16 + (p.to - p.from))) → let p = shown a in ground_of a ≡ Ok tt → (word_value r / 2 ^ 16 ≡ p.from) × (word_value r % 2 ^ 16 ≡ p.to - p.from)
+part_back (Ok p) r f u e =
     let high : p.to < 2 ^ 16 = lt_of_le_of_lt f.1 (lit< tt) in
     let short : p.to - p.from < 2 ^ 16 = omega arith in
     let v = u.value in
     let some : 0 < 2 ^ 16 = lit< tt in
     (rw (v, mul-add-div_right some p.from (p.to - p.from), div-eq_of_lt short, add-zero), rw (v, mul-add-mod_self_right p.from (2 ^ 16) (p.to - p.from), mod-eq_of_lt short))
-part_back (Err g) f u e = cc
+part_back (Err g) r f u e = cc
 
 pub style_says : (ws : List ℕ) (t dur : ℤ) (block own : List ℕ) {r : ℕ} → r ≡ answer_word style_word (style_at ws t dur block own) → StyleCall ws t dur block own r
 style_says ws t dur block own w =
     let a = style_at ws t dur block own in
     let f = answer-fits ws t dur block own in
-    let said = rw w (style_whole a f) in
-    record { answered = said; part = part_back a f said; stored = style_stored ws t dur block own }
+    let p = shown a in
+    let said : Says _ (ground_of a) (pick p.of_block 1 0) (p.from * 2 ^ 16 + (p.to - p.from)) = rw w (style_whole a f) in
+    record { answered = said; part = part_back a _ f said; stored = style_stored ws t dur block own }

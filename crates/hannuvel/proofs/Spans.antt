@@ -12,9 +12,9 @@ use Rattle.scan.proofs.Laws.{picked}
 use Rattle.rows.specs.Rows.{bits}
 use Rattle.refusal.specs.Refusal.{Checked, number_of, place_of, most_places}
 use Rattle.refusal.specs.declared.Refusal.TheVariants.{TimeOutOfRange}
-use Rattle.std.specs.Prelude.{Result, Ok, Err, Option, Some, None}
+use Rattle.std.specs.Prelude.{Ok, Err}
 use Rattle.refusal.proofs.Laws.{place_in}
-use Rattle.refusal.specs.Answer.{Answer, number_in, ground_of, room_for, unless_bad, answer_value}
+use Rattle.refusal.specs.Answer.{Answer, room_for, unless_bad, answer_value}
 use Rattle.tag.specs.WellFormed.{table_ground}
 use Rattle.table.specs.Ground.{in_time}
 use Rattle.karaoke.specs.declared.KaraokeSpan.{KaraokeSpan}

@@ -15,9 +15,9 @@ use Rattle.float.proofs.Words.{of_word-to_word}
 use Rattle.refusal.specs.Refusal.{Checked, number_of, place_of, most_bytes, most_places, text_ground}
 use Rattle.refusal.specs.declared.Refusal.{Refusal}
 use Rattle.refusal.specs.declared.Refusal.TheVariants.{TimeOutOfRange}
-use Rattle.std.specs.Prelude.{Result, Ok, Err, Option, Some, None}
-use Rattle.refusal.specs.Answer.{Answer, beside, first_ground, number_in, ground_of, answer_value}
-use Rattle.refusal.proofs.Laws.{place_in, Few, Within, value-small}
+use Rattle.std.specs.Prelude.{Ok, Err, Option, Some, None}
+use Rattle.refusal.specs.Answer.{Answer, beside, first_ground}
+use Rattle.refusal.proofs.Laws.{Few, Within, value-small}
 use Rattle.read.specs.Reading.{answer}
 use Rattle.tag.specs.declared.Record.{Record}
 use Rattle.tag.specs.WellFormed.{records_of, holds, table_ground, AtFault, range, deep, past, later, inner, behind}
