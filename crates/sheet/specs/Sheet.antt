@@ -13,7 +13,7 @@ use Rattle.tag.specs.Tag.{Tags, append, count}
 use Rattle.tag.specs.Table.{records, encode}
 use Rattle.tag.specs.WellFormed.{All, all, more}
 use Rattle.plain.specs.Names.{names, lookup, lowered, key_at}
-use Rattle.plain.specs.Plain.{part, f32s, i32s, all_floats, floats_in, all_ints, ints_in, unless_long, pair_of, move_of, fad_of, fade_of, ranged_of, weight_of, flag_of, clip_of, reset_of, shaped, is_fn, is_named_reset, plain_at_lem}
+use Rattle.plain.specs.Plain.{part, f32s, i32s, all_floats, floats_in, all_ints, ints_in, unless_long, pair_of, move_of, fad_of, fade_of, ranged_of, weight_of, flag_of, clip_of, reset_of, shaped, is_fn, is_named_reset, plain_at}
 use Rattle.read.specs.Block.{param_at, peel, tag_at, walk as walk_block, t_at, parse}
 use Rattle.read.specs.Reading.{whole_text, block_of}
 use Rattle.state.specs.Apply.{apply_own, apply_tags, evaluate_at}
@@ -116,5 +116,5 @@ rows =
 
 -- every row holds
 pub sheet : All Holds rows
-unfolding round to_bits of_bits of_int to_signed add mul div sum span_of back skip skip_back blank_at blank_before closing max_zero round_away round_byte value whole_number i32_of hex_at split_at exponent_at float_of f32_of trimmed ampersands zero_xat digits alpha_at colour_at split append records encode count names lookup lowered key_at part f32s i32s all_floats floats_in all_ints ints_in unless_long pair_of move_of fad_of fade_of ranged_of weight_of flag_of clip_of reset_of shaped is_fn is_named_reset plain_at_lem param_at peel tag_at walk_block t_at parse apply_own apply_tags evaluate_at marks next_mark karaoke_spans spells special token_of word_end_lem tokens until_letter scale_of scaled weighed command_of letter_turn walk
+unfolding round to_bits of_bits of_int to_signed add mul div sum span_of back skip skip_back blank_at blank_before closing max_zero round_away round_byte value whole_number i32_of hex_at split_at exponent_at float_of f32_of trimmed ampersands zero_xat digits alpha_at colour_at split append records encode count names lookup lowered key_at part f32s i32s all_floats floats_in all_ints ints_in unless_long pair_of move_of fad_of fade_of ranged_of weight_of flag_of clip_of reset_of shaped is_fn is_named_reset plain_at param_at peel tag_at walk_block t_at parse apply_own apply_tags evaluate_at marks next_mark karaoke_spans spells special token_of word_end_lem tokens until_letter scale_of scaled weighed command_of letter_turn walk
 sheet = more refl (more refl (more refl (more refl (more refl (more refl (more refl (more refl (more refl (more refl (more refl (more refl (more refl (more refl all)))))))))))))
