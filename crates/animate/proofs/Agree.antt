@@ -78,7 +78,7 @@ numbered NameBeyondText e = omega arith
 numbered (NoRoom n) e = omega arith
 
 -- a number that names a mark, or none, is no refusal
-named : (w : ℕ) (m : Mark) → Names w m → word_ground w ≡ 0
+named : (w : ℕ) (m : Option ℤ) → Names w m → word_ground w ≡ 0
 named w None n = n.ground
 named w (Some a) n = n.0.ground
 

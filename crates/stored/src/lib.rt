@@ -131,7 +131,7 @@ pub fn parse(line: &[u8], words: &mut [u32], text: &mut [u8]) -> Line
     ensures { IsPrefixLen result.words words.new × IsPrefixLen result.bytes text.new }
 {
     let name = name_size(line);
-    let start = scan::span_back(line, scan::Class::Not(32), 0, line.len());
+    let start = scan::span_back(line, scan::Not(b' '), 0, line.len());
     let from = start.min(name + 1);
     let w = numbers_of(&line[from..start], words);
     let n = numbers_of(&line[start..], text);

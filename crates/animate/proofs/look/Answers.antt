@@ -1,6 +1,3 @@
-use mathlib.Core.Path.{◌≡◌}
-use Prim.Native.Nat.{◌-◌}
-use native.Mathlib.Omega.{arith}
 use mir.Syntax.{w32}
 use mir.ValLaws.{to_z-of_z}
 use Rattle.animate.proofs.Agree.{take-least}
@@ -9,10 +6,9 @@ use Rattle.animate.proofs.look.Goals as goal
 pub returns : goal.returns
 returns c =
     let s = c.before.before.before.before.before.before in
-    let m = c.least-m.result in
-    let z : m - 0 ≡ m = omega arith in
-    let k = take-least s.args.n m s.args.table.now c.least-m.ensures in
+    let m = c.min.result in
+    let k = take-least s.args.n m s.args.table.now c.min.ensures in
     record {
-      state = rw (to_z-of_z w32 s.args.t s.ranges.t, to_z-of_z w32 s.args.dur s.ranges.dur, z, k) at c.hannuvel_evaluate_at-evaluated.ensures;
-      next = rw (to_z-of_z w32 s.args.t s.ranges.t, to_z-of_z w32 s.args.dur s.ranges.dur, z, k) at c.hannuvel_next_mark-next.ensures;
+      state = rw (to_z-of_z w32 s.args.t s.ranges.t, to_z-of_z w32 s.args.dur s.ranges.dur, k) at c.hannuvel_evaluate_at-evaluated.ensures;
+      next = rw (to_z-of_z w32 s.args.t s.ranges.t, to_z-of_z w32 s.args.dur s.ranges.dur, k) at c.hannuvel_next_mark-next.ensures;
     }
