@@ -67,7 +67,7 @@ pub record Lent : Type 0 where
 abbrev pub lent : List ℕ → List ℕ → List ℕ → Lent
 lent table one other = record { table = table; one = one; other = other }
 
--- the number w refuses for g: "Err alike means the same number and place"
+-- the number w refuses for g: "Refused alike means the same number and place"
 abbrev pub Refuses : ℕ → Refusal → Type 0
 Refuses w g = Unpacks w (number_of g) 0 (place_of g)
 

@@ -17,7 +17,7 @@ use Rattle.refusal.specs.declared.Refusal.{Refusal}
 use Rattle.refusal.specs.declared.Refusal.TheVariants.{TimeOutOfRange}
 use Rattle.std.specs.Prelude.{Ok, Err, Option, Some, None}
 use Rattle.refusal.specs.Answer.{Answer, beside, first_ground}
-use Rattle.refusal.proofs.Laws.{Few, Within, value-small}
+use Rattle.refusal.proofs.Laws.{Few, Within, place_in, value-small}
 use Rattle.read.specs.Reading.{answer}
 use Rattle.tag.specs.declared.Record.{Record}
 use Rattle.tag.specs.WellFormed.{records_of, holds, table_ground, AtFault, range, deep, past, later, inner, behind}
@@ -79,6 +79,11 @@ unpacked g e v small low =
 -- with no extra, and a value of at most 12,288
 pub plain : (g v : ℕ) → v ≤ most_bytes → Unpacks (packed g 0 v) g 0 v
 plain g v h = unpacked g 0 v (lit< tt) (lt_of_le_of_lt h (lit< tt))
+
+-- a ground whose place is at most 12,288, or an extra and a value that fit
+pub says : (c : Checked) (e v : ℕ) → place_in c ≤ most_bytes → (c ≡ Ok tt → (e < 2 ^ 16) × (v < 2 ^ 32)) → Says (answer_word (λ x. packed 0 e v) c) c e v
+says (Ok _) e v l h = unpacked 0 e v (h refl).0 (h refl).1
+says (Err r) e v l h = plain (number_of r) (place_of r) l
 
 -- ---- the calls that fill a table
 

@@ -1,15 +1,16 @@
 -- How far an instant is in a span: what each branch of the code finds.
 use mathlib.Core.Path.{◌≡◌, refl, sym, ap, ◌∙◌}
-use mathlib.Core.Bool.{Bool, true, false}
+use mathlib.Core.Bool.{Bool, true, false, true≢false}
 use Prim.Native.Nat.{ℕ, ◌-◌, ◌≤◌, ◌<◌}
 use native.Mathlib.Nat.{le_of_lt}
 use native.Mathlib.Omega.{arith}
 use lib.IntN.{ℤ, pos, negsuc}
+use lib.Signed.{lt_z}
 use lib.Ieee.{Float, of_bits, binary32}
 use mir.Syntax.{w32}
 use mir.Val.{SFits, to_z, of_z}
 use mir.Facts.{to_z-of_z}
-use borrow.Author.Tests.{le-leb, lt-leb}
+use borrow.Author.Tests.{le-leb, lt-leb, le-ltb}
 use Rattle.scan.specs.Scan.{pick, both}
 use Rattle.state.specs.Apply.{from_zero_lem}
 use Rattle.state.specs.Mix.{quotient}
@@ -26,6 +27,12 @@ use Rattle.karaoke.specs.declared.KaraokeSpan.{KaraokeSpan}
 use Rattle.karaoke.specs.Karaoke.{most_ms}
 use Rattle.karaoke.specs.Progress.{whole, progress_in, instant_ground, Progressed, progressed, ground_of, progress_of, ProgressStands}
 use Rattle.karaoke.proofs.Unit.{progress_in-unit}
+
+-- before the line begins
+pub before-all : (start end : ℕ) (t : ℤ) → lt_z t (pos 0) ≡ true → of_bits binary32 0 ≡ progress_in (pos start) (pos end) t
+unfolding progress_in of_bits
+before-all start end (pos n) h = absurd (true≢false (sym h ∙ le-ltb n 0 (omega arith)))
+before-all start end (negsuc n) h = refl
 
 -- an instant before the line begins counts as its beginning
 from_begin : (start end : ℕ) (t : ℤ) → progress_in (pos start) (pos end) (pos (from_zero_lem t)) ≡ progress_in (pos start) (pos end) t

@@ -18,6 +18,7 @@ pub record Drawn (s : List ℕ) (k : Float) (t : List ℕ) (n : ℕ) (u : List �
   pub good : tokens_ground (from s 0) ≡ Ok tt
   pub emits : Emits t 0 (draw k (from s 0)) n u
   pub few : n ≤ 2 * length s
+  pub same : length u ≡ length t
 
 -- a run that ground 3 ends
 pub record Stopped (s : List ℕ) (t : List ℕ) (r : Refusal) (u : List ℕ) : Type 0 where

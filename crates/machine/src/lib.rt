@@ -119,5 +119,5 @@ pub fn draw(text: &[u8], scale: f32, path: &mut [u32]) -> Result<usize, Refusal>
         turn_ground(text, t, k)?;
         at = turn(text, t, k, scale, &mut stroke);
     }
-    Ok(stroke.count())
+    Ok(stroke.count)
 }

@@ -75,8 +75,8 @@ fn bez(a: Point, wa: f32, b: Point, wb: f32, c: Point, wc: f32) -> Point
 #[derive(Drop)]
 pub struct Stroke<'a> {
     pub pen: Pen,
-    words: &'a mut [u32],
-    count: usize,
+    pub words: &'a mut [u32],
+    pub count: usize,
 }
 
 impl<'a> Stroke<'a> {
@@ -93,13 +93,6 @@ impl<'a> Stroke<'a> {
             words,
             count: 0,
         }
-    }
-
-    // How many commands there are so far.
-    pub fn count(&self) -> usize
-        ensures { result ≡ self.now.count }
-    {
-        self.count
     }
 
     // Draws a command. There are far fewer than 65,536: a text has at most 12,288 bytes, and each gives at most two.

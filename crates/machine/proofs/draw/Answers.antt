@@ -32,8 +32,9 @@ returns c =
     let l = c.loop-t.invariant in
     let e = c.in_default.ensures in
     drawn-kept {u = c.loop-t.stroke.words.now} (search rules)
-    (rw c.count.ensures (record {
+    (record {
       good = l.ground ∙ ground-end e;
       emits = l.left _ _ (rw (left_end c.args.scale c.loop-t.stroke.pen _ e) (emits_none _ _));
       few = omega (arith, l.few, l.place);
-    }))
+      same = l.kept;
+    })
