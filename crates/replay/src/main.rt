@@ -94,7 +94,11 @@ fn progress(rt: &impl Print, words: &[u32]) -> io::Result<()> {
     let [start, end, t] = words else {
         return write_unknown(rt);
     };
-    write(rt, hannuvel::hannuvel_progress(*start, *end, t.cast_signed()), &[])
+    write(
+        rt,
+        hannuvel::hannuvel_progress(*start, *end, t.cast_signed()),
+        &[],
+    )
 }
 
 // The style in force, on the number of bytes of the block, an instant, a duration and a table's words; the text is the block and then the own name.
