@@ -86,10 +86,9 @@ pub fn aligned(s: Line, n: u32) -> Line
     if n < 1 || n > 9 {
         return s;
     }
-    Line {
-        alignment: Some(n as u8),
-        ..s
-    }
+    let mut line = s;
+    line.alignment = Some(n as u8);
+    line
 }
 
 // Nor does a wrap style above 3.
@@ -100,8 +99,7 @@ pub fn wrapped(s: Line, n: u32) -> Line
     if n > 3 {
         return s;
     }
-    Line {
-        wrap_style: Some(n as u8),
-        ..s
-    }
+    let mut line = s;
+    line.wrap_style = Some(n as u8);
+    line
 }

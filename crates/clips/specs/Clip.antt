@@ -1,12 +1,12 @@
 -- A clip argument: Rust's `split_clip_arg`.
 use Rattle.std.specs.Prelude.{◌≡◌, List, ℕ, ◌+◌, ltb, eqb, length, Result, Ok, Err, MatchResult}
 use Rattle.std.specs.Borrow.{Bor}
-use Rattle.std.specs.Result.{result_and}
+use Rattle.std.specs.Result.{result_and, result_unwrap_or}
 use Rattle.scan.specs.Scan.{pick, other, span_to, trim_start, trim_end}
 use Rattle.numeral.specs.Numeral.{whole_number}
 use Rattle.refusal.specs.declared.Refusal.{Refusal}
 use Rattle.refusal.specs.Refusal.{text_ground}
-use Rattle.refusal.specs.Answer.{beside}
+use Rattle.refusal.specs.Answer.{beside, Stands}
 use Rattle.clips.specs.declared.Clip.{Clip}
 use Rattle.clips.specs.declared.ClipArg.{ClipArg}
 use Rattle.clips.specs.Part.{IsPart}
@@ -44,9 +44,17 @@ clip_parts s =
 abbrev pub clip_of : List ℕ → Result Clip Refusal
 clip_of s = result_and (text_ground s) (Ok (clip_parts s))
 
--- the same beside a refusal: scale 1 and an empty part
+-- "Beside it stand .. scale 1 or an empty part"
+abbrev pub refused : Clip
+refused = clip 1 0 0
+
+-- the same with these beside a refusal
 abbrev pub parts_of : List ℕ → Clip
-parts_of s = beside (text_ground s) (clip 1 0 0) (clip_parts s)
+parts_of s = beside (text_ground s) refused (clip_parts s)
+
+-- what stands for the answer to a text: its ground, and its parts or, beside one, these
+abbrev pub ClipStands : List ℕ → Result Clip Refusal → Type 0
+ClipStands s r = Stands (text_ground s) refused (clip_parts s) (result_and r (Ok tt)) (result_unwrap_or r refused)
 
 -- 01: "hands back the rest of the argument itself": r is the rest of the text t, the caller's own bytes where they lie
 abbrev pub IsRest : Bor (List ℕ) → Bor (List ℕ) → Type 0
@@ -58,6 +66,11 @@ pub record IsArg (t : Bor (List ℕ)) (a : ClipArg) : Type 0 where
   pub size : a.scale ≡ (parts_of t.now).scale
   pub ground : text_ground t.now ≡ Ok tt
 
--- what `split_clip_arg` says of its answer to the text t: the argument, or ground 1 or 2
+-- of one refused: ground 1 or 2, and beside it scale 1 and an empty part of the text t, which `clip_scale` and `clip_rest` give
+pub record IsRefused (t : Bor (List ℕ)) (e : Refusal) : Type 0 where
+  pub ground : text_ground t.now ≡ Err e
+  pub beside : parts_of t.now ≡ refused
+
+-- what `split_clip_arg` says of its answer to the text t
 abbrev pub Splits : Bor (List ℕ) → Result ClipArg Refusal → Type 0
-Splits t r = MatchResult r (IsArg t) (λ e. text_ground t.now ≡ Err e)
+Splits t r = MatchResult r (IsArg t) (IsRefused t)

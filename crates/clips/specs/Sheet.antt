@@ -37,6 +37,11 @@ pub clips : Splits (
 unfolding span skip skip_back blank_at blank_before value whole_number clip_parts text_ground
 clips = refl
 
+-- beside a refusal scale 1 and an empty part
+pub refused_parts : parts_of (bytes "2,\u{80}") ≡ clip 1 0 0
+unfolding span skip skip_back blank_at blank_before value whole_number clip_parts text_ground
+refused_parts = refl
+
 pub rests : Rests (("2, m 0 0", "m 0 0") ∷ (",m", ",m") ∷ (" m 0, 0 ", "m 0, 0 ") ∷ ("3,", "") ∷ [])
 unfolding span skip skip_back blank_at blank_before value whole_number clip_parts text_ground
 rests = refl

@@ -1,8 +1,9 @@
 // Clip arguments: the scale, and the rest of the caller's own slice.
 #![tactic(auto)]
 
-ghost use Rattle.std.specs.Prelude.{◌≡◌, IfOk};
-ghost use Rattle.clips.specs.Clip.{clip_parts, clip_of, parts_of, IsRest, Splits};
+ghost use Rattle.std.specs.Prelude.{◌≡◌, ◌≤◌, IfOk, length};
+ghost use Rattle.scan.specs.Scan.{other, span_to, Place};
+ghost use Rattle.clips.specs.Clip.{clip_parts, clip_of, parts_of, ClipStands, IsRest, Splits};
 ghost use Rattle.clips.specs.Inner.{ClipIn, InOrder};
 
 use refusal::Refusal;
@@ -13,6 +14,16 @@ pub struct Clip {
     pub scale: u32,
     pub from: usize,
     pub to: usize,
+}
+
+// The first comma between two places, or the later one.
+// For the compiler (MEASURED, Shapes for the compiler): a function of its own, in which the loop is short.
+#[inline(never)]
+fn comma_at(text: &[u8], from: usize, to: usize) -> usize
+    requires { (from ≤ to) × (to ≤ length text.now) }
+    ensures { Place from to (span_to (other 44) text.now from to) result }
+{
+    scan::span(text, scan::Not(b','), from, to)
 }
 
 // The scale before the first comma and the rest behind it, or 1 and all; leading blanks dropped.
@@ -27,7 +38,7 @@ fn clip_parts(text: &[u8]) -> Clip
     if scan::past(text, scan::Digit(10), from, to) == from {
         return all;
     }
-    let comma = scan::span(text, scan::Not(b','), from, to);
+    let comma = comma_at(text, from, to);
     if comma == to {
         return all;
     }
@@ -45,6 +56,7 @@ fn clip_parts(text: &[u8]) -> Clip
 // 01, src/drawing.rs: a clip argument by places.
 pub fn clip_at(text: &[u8]) -> Result<Clip, Refusal>
     ensures is { result ≡ clip_of text.now }
+    ensures stands { ClipStands text.now result }
     ensures in_text { IfOk result (InOrder text.now) }
 {
     refusal::check_text(text)?;

@@ -40,7 +40,7 @@ whole_float : (n : ℕ) → n < 16777216 → HasValue (of_int binary32 (pos n)) 
 unfolding of_int
 whole_float n h = round_exact binary32 false n 1 n 149 (lit< tt) h (lt_of_lt_of_le (shl_lt 24 149 h) (lit≤ tt)) (sym (mul-one (n * 2 ^ 149)))
 
-quotient : (n p : ℕ) → n < 16777216 → p < 16777216 → 0 < p → div binary32 (of_int binary32 (pos n)) (of_int binary32 (pos p)) ≡ round binary32 false n p
+pub quotient : (n p : ℕ) → n < 16777216 → p < 16777216 → 0 < p → div binary32 (of_int binary32 (pos n)) (of_int binary32 (pos p)) ≡ round binary32 false n p
 quotient n p h k z = div_at (of_int binary32 (pos n)) (of_int binary32 (pos p)) n p (whole_float n h) (whole_float p k) z
 
 -- ---- by a power of ten

@@ -142,8 +142,8 @@ call_low ws t dur = first-low (table_ground ws) (time_ground t dur) (table-low w
 
 -- `hannuvel_evaluate_at`
 low_says : (c : Checked) (st : RenderState) → Low c → Says (answer_word no_word c) (Evaluate.ground_of (evaluated_or c st)) 0 0
-low_says (Ok _) st l = unpacked 0 0 0 (lit< tt) (lit< tt)
-low_says (Err r) st l = plain (number_of r) (place_of r) (le_trans l (lit≤ tt))
+low_says (Ok u) st l = says (Ok u) 0 0 (lit≤ tt) (λ e. (lit< tt, lit< tt))
+low_says (Err r) st l = says (Err r) 0 0 (le_trans l (lit≤ tt)) (λ e. (lit< tt, lit< tt))
 
 evaluated-ground : (c : Checked) (st : RenderState) → answer_word no_word (Evaluate.ground_of (evaluated_or c st)) ≡ answer_word no_word c
 evaluated-ground (Ok _) st = refl

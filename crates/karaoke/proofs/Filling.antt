@@ -2,20 +2,20 @@
 use mathlib.Core.Path.{◌≡◌, refl, sym, ap, ◌∙◌}
 use mathlib.Core.Bool.{Bool, true, false}
 use mathlib.Core.List.{List, [], ◌∷◌, ◌++◌, append_assoc}
-use Prim.Native.Nat.{ℕ, suc, ◌+◌, ◌-◌, ◌*◌, ◌≤◌, ◌<◌, min}
+use Prim.Native.Nat.{ℕ, zero, suc, ◌+◌, ◌*◌, ◌≤◌, ◌<◌, min}
 use native.Mathlib.Omega.{arith}
 use lib.Dec.{leb}
 use lib.ListN.{length, get_or, take, drop, set, length-append, length-drop}
-use lib.Seq.{set_at, take_all, take-add, drop-cons, drop-drop, length-take-le}
+use lib.Seq.{sets-eq, set_at, take_all, take-add, drop-cons, drop-drop, drop-length, length-take-le}
 use borrow.Author.Tests.{leb-true, le-leb, lt-leb}
 use Rattle.scan.specs.Scan.{pick}
-use Rattle.rows.specs.Rows.{laid_rows}
 use Rattle.rows.proofs.Laws as rows
 use Rattle.refusal.specs.Refusal.{Checked, most_places}
 use Rattle.refusal.specs.declared.Refusal.{Refusal}
 use Rattle.refusal.specs.declared.Refusal.TheVariants.{NoRoom}
 use Rattle.std.specs.Prelude.{Ok, Err}
 use Rattle.refusal.specs.Answer.{Answer, room_for, unless_bad}
+use Rattle.tag.specs.Table.{kind_word}
 use Rattle.tag.specs.WellFormed.{records_of, table_ground}
 use Rattle.tag.proofs.Formed.{ground-formed}
 use Rattle.karaoke.specs.declared.KaraokeSpan.{KaraokeSpan}
@@ -29,11 +29,15 @@ use Rattle.karaoke.proofs.Flat.{flat}
 wide : (s : KaraokeSpan) → length (span_words s) ≡ span_width
 wide s = refl
 
--- a span put as a row behind the first k words
-pub put-at : (k : ℕ) (t u : List ℕ) (s : KaraokeSpan) → k ≤ length t → u ≡ laid_rows span_width (λ r. r) (take (length t - k) (drop k t)) (span_words s ∷ [])
-    → take k t ++ (u ++ drop (length t - k) (drop k t)) ≡ take k t ++ laid_spans (drop k t) (s ∷ [])
-unfolding laid_rows
-put-at k t u s h e = rows.rest_back k t u h ∙ ap (λ (l : List ℕ). take k t ++ l) (e ∙ ap (λ (l : List ℕ). laid_rows span_width (λ r. r) l (span_words s ∷ [])) (rows.rest-is k t))
+-- a span's words stored from the word k on
+pub put-at : (t : List ℕ) (k : ℕ) (s : KaraokeSpan) → k + span_width ≤ length t
+    → set (set (set t k (kind_word s.kind)) (k + 1) s.start_ms.0) (k + 2) s.end_ms.0 ≡ take k t ++ laid_spans (drop k t) (s ∷ [])
+put-at t k s h =
+    let l = rows.laid_more span_width span_words (drop k t) s [] (omega (arith, length-drop k t)) in
+    let e = sets-eq (span_words s) t k h ∙ append_assoc (take k t) (span_words s) (drop (k + span_width) t) in
+    let z : k + 1 ≡ suc k = omega arith in
+    let y : k + 2 ≡ suc (suc k) = omega arith in
+    rw (z, y) (e ∙ rw (l, rows.laid_nil span_width span_words (drop span_width (drop k t)), drop-drop span_width k t))
 
 pub length-laid : (l : List KaraokeSpan) (t : List ℕ) → length (laid_spans t l) ≡ length t
 length-laid l t = rows.length-laid span_width span_words wide l t
@@ -128,6 +132,11 @@ module _ (all : List KaraokeSpan) (i : ℕ) (x : KaraokeSpan) (rest : List Karao
       let y : length (a ++ (x ∷ [])) ≡ suc i = simp length-append (omega arith) in
       let c : drop i l ≡ get_or l i x ∷ drop (suc i) l = drop-cons l i x (omega (arith, more)) in
       rw (d, z, c, next, y) (set_at a (get_or l i x) (drop (suc i) l) x i z ∙ sym (append_assoc a (x ∷ []) (drop (suc i) l)))
+
+-- where k of the n in all are still to come, and none is left behind the first i if k is not 0, none is left at all
+pub ended : (all : List KaraokeSpan) (i n k : ℕ) → k + i ≡ n → n ≡ length all → (0 < k → drop i all ≡ []) → drop i all ≡ []
+ended all i n zero e c f = let h : i ≡ length all = omega (arith, e, c) in rw h (drop-length all)
+ended all i n (suc k) e c f = f (omega arith)
 
 -- none are left behind i of all
 pub end : (all : List KaraokeSpan) (i : ℕ) → drop i all ≡ [] → take i all ≡ all

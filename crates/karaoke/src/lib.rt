@@ -215,10 +215,9 @@ fn put_span(words: &mut [u32], k: usize, s: KaraokeSpan)
     requires { k + 3 ≤ length words.old }
     ensures { words.new ≡ take k words.old ++ laid_spans (drop k words.old) (s ∷ []) }
 {
-    rows::put(
-        &mut words[k..],
-        [u32::from(s.kind), s.start_ms.0, s.end_ms.0],
-    );
+    words[k] = u32::from(s.kind);
+    words[k + 1] = s.start_ms.0;
+    words[k + 2] = s.end_ms.0;
 }
 
 // 01, Karaoke, for the C interface: the spans of the tags that the table stands for, three words each, into the lent words.
@@ -226,7 +225,7 @@ pub fn write_spans(table: &[u32], words: &mut [u32]) -> Result<usize, Refusal>
     ensures { AnsweredWords table.now words.old result words.new }
 {
     let n = check_spans(table, words.len() / 3)?;
-    for (i, span) in Walk::of(table).enumerate() {
+    for (i, span) in Walk::of(table).take(n).enumerate() {
         put_span(words, 3 * i, span);
     }
     Ok(n)
@@ -237,7 +236,7 @@ pub fn karaoke_spans(table: &[u32], list: &mut [KaraokeSpan]) -> Result<usize, R
     ensures { Answered table.now list.old result list.new }
 {
     let n = check_spans(table, list.len())?;
-    for (i, span) in Walk::of(table).enumerate() {
+    for (i, span) in Walk::of(table).take(n).enumerate() {
         list[i] = span;
     }
     Ok(n)

@@ -9,7 +9,7 @@ use Rattle.refusal.specs.declared.Refusal.TheVariants.{TextTooLong, NotAscii, Na
 use Rattle.tag.specs.Tag.{Tags, none, and, R, T, plain, named, times}
 use Rattle.state.specs.Apply.{apply_own, apply_tags, evaluate_at}
 use Rattle.style.specs.declared.Place.{Place}
-use Rattle.style.specs.Style.{lower_ground, place, style_in}
+use Rattle.style.specs.Style.{lower_ground, place, shown, style_in}
 
 -- tags, the block that they stand in, the line's own style name, and the style in force at 500 in a line of 1,000
 abbrev Row : Type 0
@@ -41,6 +41,16 @@ pub styles : InForce (
     [])
 unfolding evaluate_at apply_tags apply_own span text_ground
 styles = refl
+
+-- beside a refusal an empty part of the name
+pub refused_parts : map shown (map answer (
+    (to 2 3 none, ("\\rAl", ("Default", Err NameBeyondText))) ∷
+    (to 4294967295 4294967295 none, ("\\rAlt", ("Default", Err NameBeyondText))) ∷
+    (to 2 3 none, ("\\rA\u{80}", ("\u{80}", Err (NotAscii 3)))) ∷
+    (to 2 9 none, ("\\rAlt", ("ab\u{80}", Err (NotAscii 2)))) ∷
+    [])) ≡ place false 0 0 ∷ place false 0 0 ∷ place false 0 0 ∷ place false 0 0 ∷ []
+unfolding evaluate_at apply_tags apply_own span text_ground
+refused_parts = refl
 
 -- 1 for the name before 2 for the block, 1 for the block before 2 for the name
 pub lengths_first : (lower_ground (Err (NotAscii 3)) (Err TextTooLong) ≡ Err TextTooLong) × (lower_ground (Err TextTooLong) (Err (NotAscii 0)) ≡ Err TextTooLong)

@@ -5,6 +5,7 @@ use Rattle.std.specs.Result.{result_and, result_unwrap_or}
 use Rattle.std.specs.Borrow.{Bor}
 use Rattle.scan.specs.Scan.{pick}
 use Rattle.refusal.specs.Refusal.{Checked, number_of, text_ground}
+use Rattle.refusal.specs.Answer.{Stands}
 use Rattle.refusal.specs.declared.Refusal.{Refusal}
 use Rattle.refusal.specs.declared.Refusal.TheVariants.{NameBeyondText}
 use Rattle.state.specs.declared.Part.{Part}
@@ -55,6 +56,10 @@ named _ block own = Ok (own_name own)
 abbrev pub style_in : RenderState → List ℕ → List ℕ → Result Place Refusal
 style_in st block own = result_and (texts_ground block own) (named (reset_to st) block own)
 
+-- what stands for the answer: its ground, and its place or, beside one, that part
+abbrev pub PlaceStands : RenderState → List ℕ → List ℕ → Result Place Refusal → Type 0
+PlaceStands st block own r = let a = style_in st block own in Stands (result_and a (Ok tt)) refused (shown a) (result_and r (Ok tt)) (shown r)
+
 -- that a place lies within its text
 pub record InItsText (block own : List ℕ) (p : Place) : Type 0 where
   pub order : p.from ≤ p.to
@@ -71,6 +76,11 @@ pub record IsInForce (st : RenderState) (block own : Bor (List ℕ)) (n : StyleN
   pub places : style_in st block.now own.now ≡ Ok n.place
   pub name : IsName n.place block own n.name
 
+-- with a ground: that one, and beside it an empty part, which `style_name` gives
+pub record IsRefused (st : RenderState) (block own : Bor (List ℕ)) (e : Refusal) : Type 0 where
+  pub ground : style_in st block.now own.now ≡ Err e
+  pub beside : shown (style_in st block.now own.now) ≡ refused
+
 -- what `style_in_force` says of its answer
 abbrev pub InForce : RenderState → Bor (List ℕ) → Bor (List ℕ) → Result StyleName Refusal → Type 0
-InForce st block own r = MatchResult r (IsInForce st block own) (λ e. style_in st block.now own.now ≡ Err e)
+InForce st block own r = MatchResult r (IsInForce st block own) (IsRefused st block own)

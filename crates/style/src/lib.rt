@@ -2,7 +2,7 @@
 #![tactic(auto)]
 
 ghost use Rattle.std.specs.Prelude.{◌≡◌};
-ghost use Rattle.style.specs.Style.{lower_ground, texts_ground, shown, given_name, named, style_in, InItsText, IsName, InForce};
+ghost use Rattle.style.specs.Style.{lower_ground, texts_ground, shown, given_name, named, style_in, PlaceStands, InItsText, IsName, InForce};
 
 use refusal::Refusal;
 use state::{Part, RenderState};
@@ -65,7 +65,8 @@ pub fn named_reset(reset: Option<Option<Part>>, block: &[u8], own: &[u8]) -> Res
 
 // 01, "Style in force", by places.
 pub fn style_at(st: RenderState, block: &[u8], own: &[u8]) -> Result<Place, Refusal>
-    ensures { result ≡ style_in st block.now own.now }
+    ensures value { result ≡ style_in st block.now own.now }
+    ensures place_stands { PlaceStands st block.now own.now result }
 {
     check_texts(block, own)?;
     named_reset(st.line.reset_to_style, block, own)

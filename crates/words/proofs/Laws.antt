@@ -1,6 +1,7 @@
 -- Words stored one after the other, joined.
 use mathlib.Core.Path.{◌≡◌, refl, sym, ap, ◌∙◌}
 use mathlib.Core.List.{List, [], ◌∷◌, ◌++◌, append-nil, append_assoc}
+use Rattle.std.specs.Prelude.{ℤ, Bool, Float, Option, None, Some}
 use Prim.Native.Nat.{ℕ, suc, ◌+◌, ◌-◌, ◌≤◌}
 use native.Mathlib.Numerals.{add-one}
 use native.Mathlib.Omega.{arith}
@@ -11,7 +12,12 @@ use Rattle.std.proofs.lemmas.List.{length-replicate, drop-replicate, replicate-a
 use Rattle.std.proofs.lemmas.List.Edits.{paste_all}
 use Rattle.std.proofs.lemmas.Slice.{put_mid-paste}
 use Rattle.state.specs.declared.RenderState.{RenderState}
-use Rattle.words.specs.Words.{words_from0, words_from18, words_from44, words_from70, state_words}
+use Rattle.state.specs.declared.Pair.{Pair}
+use Rattle.state.specs.declared.ClipRect.{ClipRect}
+use Rattle.state.specs.declared.Rgb.{Rgb}
+use Rattle.state.specs.declared.Part.{Part}
+use Rattle.state.specs.declared.Name.{Name}
+use Rattle.words.specs.Words.{number, int, flag, f32, pair, rect, rgb, part, name, option, reset, words_from0, words_from18, words_from44, words_from70, state_words}
 use Rattle.words.specs.Inner.{put_at, Clear, Free, Put}
 
 sets_append : (a b t : List ℕ) (at : ℕ) → sets t at (a ++ b) ≡ sets (sets t at a) (at + length a) b
@@ -78,15 +84,75 @@ behind_flag {u} {v} {n} {k} w ws p =
     record { is = p.is ∙ ap (λ (i : ℕ). sets (set u n w) i ws) (add-one n); wide = omega (arith, p.wide); clear = rw e at p.clear }
 
 -- the next words follow
-pub next : {t u v : List ℕ} {i k m : ℕ} {a b : List ℕ} → Put t i k a u → Put u (i + k) m b v → Put t i (k + m) (a ++ b) v
+joined : (t : List ℕ) (i k : ℕ) (a b : List ℕ) {u v : List ℕ} → length a ≡ k → u ≡ put_at t i a → v ≡ put_at u (i + k) b → v ≡ put_at t i (a ++ b)
 unfolding put_at
-next {t} {u} {v} {i} {k} {m} {a} {b} p q =
+joined t i k a b w p q = q ∙ rw (p, ← w) (sym (sets_append a b t i))
+
+pub next : {t u v : List ℕ} {i k m : ℕ} {a b : List ℕ} → Put t i k a u → Put u (i + k) m b v → Put t i (k + m) (a ++ b) v
+next {t} {i = i} {k} {m} {a} {b} p q =
     let e : i + k + m ≡ i + (k + m) = omega arith in
     record {
-      is = q.is ∙ rw (p.is, ← p.wide) (sym (sets_append a b t i));
+      is = joined t i k a b p.wide p.is q.is;
       wide = length-append a b ∙ rw (p.wide, q.wide) refl;
       clear = rw e at q.clear;
     }
+
+-- ---- how many words a field has
+
+wide-option : {A : Type 0} (n : ℕ) (f : A → List ℕ) → ((x : A) → length (f x) ≡ n) → (o : Option A) → length (option n f o) ≡ n + 1
+unfolding option
+wide-option n f w None = ap suc (length-replicate n 0) ∙ sym (add-one n)
+wide-option n f w (Some x) = ap suc (w x) ∙ sym (add-one n)
+
+wide-number : (o : Option ℕ) → length (option 1 number o) ≡ 2
+wide-number = wide-option 1 number (λ x. refl)
+
+wide-int : (o : Option ℤ) → length (option 1 int o) ≡ 2
+wide-int = wide-option 1 int (λ x. refl)
+
+wide-flag : (o : Option Bool) → length (option 1 flag o) ≡ 2
+wide-flag = wide-option 1 flag (λ x. refl)
+
+wide-f32 : (o : Option Float) → length (option 1 f32 o) ≡ 2
+wide-f32 = wide-option 1 f32 (λ x. refl)
+
+wide-pair : (o : Option Pair) → length (option 2 pair o) ≡ 3
+wide-pair = wide-option 2 pair (λ x. refl)
+
+wide-part : (o : Option Part) → length (option 2 part o) ≡ 3
+wide-part = wide-option 2 part (λ x. refl)
+
+wide-rgb : (o : Option Rgb) → length (option 3 rgb o) ≡ 4
+wide-rgb = wide-option 3 rgb (λ x. refl)
+
+wide-rect : (o : Option ClipRect) → length (option 4 rect o) ≡ 5
+wide-rect = wide-option 4 rect (λ x. refl)
+
+wide-name : (o : Option Name) → length (option 4 name o) ≡ 5
+wide-name = wide-option 4 name (λ x. refl)
+
+wide-reset : (o : Option (Option Part)) → length (reset o) ≡ 3
+unfolding reset
+wide-reset None = refl
+wide-reset (Some None) = refl
+wide-reset (Some (Some p)) = refl
+
+pub wide_from0 : (st : RenderState) → length (words_from0 st) ≡ 18
+wide_from0 st = simp (length-append, wide-pair, wide-rect, wide-part)
+
+pub wide_from18 : (st : RenderState) → length (words_from18 st) ≡ 26
+wide_from18 st = simp (length-append, wide-rgb, wide-f32, wide-pair, wide-rect, wide-part)
+
+pub wide_from44 : (st : RenderState) → length (words_from44 st) ≡ 26
+wide_from44 st = simp (length-append, wide-rgb, wide-number, wide-f32)
+
+pub wide_from70 : (st : RenderState) → length (words_from70 st) ≡ 22
+wide_from70 st = simp (length-append, wide-name, wide-number, wide-reset, wide-flag, wide-int)
+
+-- every state has 92
+pub wide-state : (st : RenderState) → length (state_words st) ≡ 92
+unfolding state_words
+wide-state st = simp (length-append, wide-number, wide-int, wide-flag, wide-f32, wide-pair, wide-part, wide-rgb, wide-rect, wide-name, wide-reset)
 
 -- written over as many words
 over : (t ws u : List ℕ) → length ws ≡ length t → u ≡ put_at t 0 ws → u ≡ ws
@@ -96,7 +162,17 @@ over t ws u h e =
     let z : 0 + length ws ≡ length t = omega arith in
     e ∙ sets-eq ws t 0 l ∙ rw (z, drop-length t, append-nil ws)
 
--- the four parts over 92 words
-pub whole : {v a b c u : List ℕ} (st : RenderState) → length v ≡ 92 → Put v 0 18 (words_from0 st) a → Put a 18 26 (words_from18 st) b → Put b 44 26 (words_from44 st) c → Put c 70 22 (words_from70 st) u → u ≡ state_words st
+-- the four parts over 92 words, whatever these held
+pub whole : (v a b c u : List ℕ) (st : RenderState) → length v ≡ 92 →
+    a ≡ put_at v 0 (words_from0 st) → b ≡ put_at a 18 (words_from18 st) → c ≡ put_at b 44 (words_from44 st) → u ≡ put_at c 70 (words_from70 st) → u ≡ state_words st
 unfolding state_words
-whole {v} {u = u} st l p q r s = let x = next (next (next p q) r) s in over v _ u (x.wide ∙ sym l) x.is
+whole v a b c u st n p q r s =
+    let w0 = words_from0 st in
+    let w18 = words_from18 st in
+    let w44 = words_from44 st in
+    let l : length (w0 ++ w18) ≡ 44 = length-append w0 w18 ∙ rw (wide_from0 st, wide_from18 st) refl in
+    let m : length (w0 ++ w18 ++ w44) ≡ 70 = length-append (w0 ++ w18) w44 ∙ rw (l, wide_from44 st) refl in
+    let x = joined v 0 18 w0 w18 (wide_from0 st) p q in
+    let y = joined v 0 44 (w0 ++ w18) w44 l x r in
+    let z = joined v 0 70 (w0 ++ w18 ++ w44) (words_from70 st) m y s in
+    over v (state_words st) u (wide-state st ∙ sym n) z

@@ -162,7 +162,7 @@ apply_tags-returns-then-at-end t c =
 pub apply_tags-returns-then-write : goal.apply_tags-returns-then-write
 apply_tags-returns-then-write t c =
     applied_is c.loop-at.invariant c.if-at-end.false
-    (rw c.if-write.true (whole c.loop-at.post c.clear.ensures.wide c.put_from_0.ensures c.put_from_18.ensures c.put_from_44.ensures c.put_from_70.ensures))
+    (rw c.if-write.true (whole _ _ _ _ _ c.loop-at.post c.clear.ensures.wide c.put_from_0.ensures.is c.put_from_18.ensures.is c.put_from_44.ensures.is c.put_from_70.ensures.is))
 
 pub apply_tags-returns-else-write : goal.apply_tags-returns-else-write
 apply_tags-returns-else-write t c =
