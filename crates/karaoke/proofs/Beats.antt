@@ -1,13 +1,14 @@
 -- The karaoke records of a table that are in no T, from one record on.
 use mathlib.Core.Path.{◌≡◌, refl, sym, ap, ◌∙◌}
+use mathlib.Core.Logic.{⊎_elim}
 use mathlib.Core.List.{List, [], ◌∷◌}
-use Prim.Native.Nat.{ℕ, zero, suc, ◌+◌, ◌≤◌, ◌<◌}
+use Prim.Native.Nat.{ℕ, zero, suc, ◌+◌, ◌-◌, ◌≤◌, ◌<◌}
 use native.Mathlib.Omega.{arith}
 use lib.Dec.{eqb}
 use lib.ListN.{length, drop, drop_of_length-le}
 use lib.Seq.{drop-drop}
 use borrow.Author.Tests.{eq-eqb, ne_eqb}
-use Rattle.scan.proofs.Laws.{picked}
+use Rattle.scan.proofs.Laws.{le_or_lt, picked}
 use Rattle.tag.specs.declared.Record.{Record}
 use Rattle.tag.specs.Tag.{cs}
 use Rattle.tag.specs.Table.{places_of}
@@ -79,6 +80,20 @@ module _ (ws : List ℕ) (at : ℕ) where
       pub past-other : (r.kind ≡ t_kind → ⊥) → (r.kind ≡ karaoke_kind → ⊥) → beats_from ws (at + 1) ≡ beats_from ws at
       unfolding beats_from
       past-other g k = sym (ap (beats 0) first ∙ beats-other r (drop (at + 1) (records_of ws)) g k)
+
+-- where syllables are left, there is a record
+pub there : (ws : List ℕ) (from at : ℕ) → beats_from ws at ≡ beats_from ws from → 0 < length (beats_from ws from) → at < places_of ws
+there ws from at e h =
+    ⊎_elim (λ (g : places_of ws ≤ at). let z = ap length (sym e ∙ from_end ws at g) in absurd (omega arith)) (λ (g : at < places_of ws). g) (le_or_lt (places_of ws) at)
+
+-- none are left where their number is 0
+pub none : (l : List Syllable) (n : ℕ) → n ≡ length l → n ≡ 0 → l ≡ []
+none [] n e z = refl
+none (s ∷ l) n e z = absurd (omega (arith, e, z))
+
+-- one less behind the record found
+pub fewer : (ws : List ℕ) (from at n : ℕ) → Found ws from at → n ≡ length (beats_from ws from) → n - 1 ≡ length (beats_from ws (at + 1))
+fewer ws from at n f c = omega (arith, ap length (sym f.same ∙ from_karaoke ws at f.there f.is), c)
 
 -- ---- the walk
 

@@ -2,11 +2,11 @@
 use mathlib.Core.Path.{◌≡◌, refl, sym, ap, ◌∙◌}
 use mathlib.Core.Bool.{Bool, true, false}
 use mathlib.Core.List.{List, [], ◌∷◌, ◌++◌, append_assoc}
-use Prim.Native.Nat.{ℕ, zero, suc, ◌+◌, ◌*◌, ◌≤◌, ◌<◌, min}
+use Prim.Native.Nat.{ℕ, suc, ◌+◌, ◌*◌, ◌≤◌, ◌<◌, min}
 use native.Mathlib.Omega.{arith}
 use lib.Dec.{leb}
 use lib.ListN.{length, get_or, take, drop, set, length-append, length-drop}
-use lib.Seq.{sets-eq, set_at, take_all, take-add, drop-cons, drop-drop, drop-length, length-take-le}
+use lib.Seq.{sets-eq, set_at, take_all, take-add, drop-cons, drop-drop, length-take-le}
 use borrow.Author.Tests.{leb-true, le-leb, lt-leb}
 use Rattle.scan.specs.Scan.{pick}
 use Rattle.rows.proofs.Laws as rows
@@ -132,11 +132,6 @@ module _ (all : List KaraokeSpan) (i : ℕ) (x : KaraokeSpan) (rest : List Karao
       let y : length (a ++ (x ∷ [])) ≡ suc i = simp length-append (omega arith) in
       let c : drop i l ≡ get_or l i x ∷ drop (suc i) l = drop-cons l i x (omega (arith, more)) in
       rw (d, z, c, next, y) (set_at a (get_or l i x) (drop (suc i) l) x i z ∙ sym (append_assoc a (x ∷ []) (drop (suc i) l)))
-
--- where k of the n in all are still to come, and none is left behind the first i if k is not 0, none is left at all
-pub ended : (all : List KaraokeSpan) (i n k : ℕ) → k + i ≡ n → n ≡ length all → (0 < k → drop i all ≡ []) → drop i all ≡ []
-ended all i n zero e c f = let h : i ≡ length all = omega (arith, e, c) in rw h (drop-length all)
-ended all i n (suc k) e c f = f (omega arith)
 
 -- none are left behind i of all
 pub end : (all : List KaraokeSpan) (i : ℕ) → drop i all ≡ [] → take i all ≡ all

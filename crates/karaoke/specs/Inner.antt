@@ -10,7 +10,6 @@ use Rattle.tag.specs.WellFormed.{records_of, t_kind, holds, fault, table_ground}
 use Rattle.tag.specs.Decode.{beat_of}
 use Rattle.table.specs.Inner.{record_in, part}
 use Rattle.karaoke.specs.declared.KaraokeSpan.{KaraokeSpan}
-use Rattle.karaoke.specs.declared.Walk.{Walk}
 use Rattle.karaoke.specs.Karaoke.{ms, Syllable, spans_from}
 
 abbrev pub karaoke_kind : ℕ
@@ -40,10 +39,6 @@ pub record Found (ws : List ℕ) (from at : ℕ) : Type 0 where
   pub there : at < places_of ws
   pub is : (record_in ws at).kind ≡ karaoke_kind
 
--- it, or none where there are no syllables
-abbrev pub NextBeat : List ℕ → ℕ → Option ℕ → Type 0
-NextBeat ws from r = MatchOption r (beats_from ws from ≡ []) (Found ws from)
-
 -- ---- ground 5 and the syllables in one pass
 
 -- the kind of a record that holds no others and makes no span
@@ -71,7 +66,3 @@ counted ws = unless_bad (table_ground ws) (Ok (length (beats_from ws 0)))
 -- those of a table
 abbrev pub all_spans : List ℕ → List KaraokeSpan
 all_spans ws = spans_from (ms 0) (beats_from ws 0)
-
--- those that the walk has still to give
-abbrev pub spans_left : Walk → List KaraokeSpan
-spans_left s = spans_from s.start_ms (beats_from s.table.now s.at)

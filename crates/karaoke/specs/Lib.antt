@@ -2,4 +2,5 @@ pub mod Karaoke
 pub mod Answer
 pub mod Progress
 pub mod Inner
+pub mod Left
 pub mod Sheet

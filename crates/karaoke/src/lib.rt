@@ -1,7 +1,7 @@
 // Karaoke: the spans that the karaoke tags of a table make, and how far an instant is in one.
 #![tactic(auto)]
 
-ghost use Rattle.std.specs.Prelude.{◌≡◌, [], ◌∷◌, ◌++◌, ◌+◌, ◌≤◌, length, take, drop};
+ghost use Rattle.std.specs.Prelude.{◌≡◌, [], ◌∷◌, ◌++◌, ◌+◌, ◌≤◌, ◌<◌, length, take, drop};
 ghost use Rattle.std.specs.Iterator.{YieldsFirst, item_count};
 ghost use Rattle.float.specs.Float.{InUnit};
 ghost use Rattle.tag.specs.Decode.{beat_of};
@@ -10,10 +10,14 @@ ghost use Rattle.table.specs.Inner.{Inside};
 ghost use Rattle.karaoke.specs.Karaoke.{in_ms, plus};
 ghost use Rattle.karaoke.specs.Answer.{answer as answer_of, laid_spans, Answered, AnsweredWords};
 ghost use Rattle.karaoke.specs.Progress.{progress_in, progressed, whole, progress_of, ProgressStands};
-ghost use Rattle.karaoke.specs.Inner.{NextBeat, all_spans, spans_left, Plain, Run, counted};
+ghost use Rattle.karaoke.specs.Left.{spans_left};
+ghost use Rattle.karaoke.specs.Inner.{beats_from, Found, all_spans, Plain, Run, counted};
+
+mod walk;
 
 use refusal::Refusal;
 use tag::{Cs, KaraokeKind, Record};
+use walk::Walk;
 
 // Milliseconds, in which spans count: never taken for centiseconds.
 #[derive(Clone, Copy, Drop)]
@@ -47,22 +51,16 @@ pub struct KaraokeSpan {
 
 // ---- the walk over the spans of a table
 
-// The spans from a record on, the first of which begins where the one before it ended.
-#[derive(Drop)]
-struct Walk<'a> {
-    table: &'a [u32],
-    at: usize,
-    start_ms: Ms,
-}
-
 impl<'a> Walk<'a> {
-    // All spans of a table.
-    fn of(table: &'a [u32]) -> Walk<'a>
+    // All spans of a table that has so many.
+    fn of(table: &'a [u32], left: usize) -> Walk<'a>
+        requires { left ≡ length (beats_from table.now 0) }
         ensures { spans_left result ≡ all_spans table.now }
     {
         Walk {
             table,
             at: 0,
+            left,
             start_ms: Ms(0),
         }
     }
@@ -76,12 +74,19 @@ impl<'a> Iterator for Walk<'a> {
     ghost remaining = { item_count spans_left };
 
     fn next(&mut self) -> Option<KaraokeSpan> {
-        let at = next_beat(self.table, self.at)?;
+        if self.left == 0 {
+            return None;
+        }
+        let at = next_beat(self.table, self.at);
         let r = table::record_at(self.table, at);
         let start_ms = self.start_ms;
         let end_ms = start_ms.saturating_add(Ms::from(Cs(r.w2)));
-        self.at = at + 1;
-        self.start_ms = end_ms;
+        *self = Walk {
+            table: self.table,
+            at: at + 1,
+            left: self.left - 1,
+            start_ms: end_ms,
+        };
         Some(KaraokeSpan {
             kind: kind_of(r.w1),
             start_ms,
@@ -101,19 +106,19 @@ fn kind_of(w: u32) -> KaraokeKind
 }
 
 // The first karaoke record from `from` on that is in no T. A T is passed over with all that is inside it.
-fn next_beat(table: &[u32], from: usize) -> Option<usize>
-    ensures { NextBeat table.now from result }
+fn next_beat(table: &[u32], from: usize) -> usize
+    requires { 0 < length (beats_from table.now from) }
+    ensures { Found table.now from result }
 {
     let mut at = from;
-    while at < table.len() / 8 {
+    loop {
         let r = table::record_at(table, at);
         match r.kind {
-            46 => return Some(at),
+            46 => return at,
             49 => at += 1 + r.w5 as usize,
             _ => at += 1,
         }
     }
-    None
 }
 
 // ---- ground 5, and how many spans there are
@@ -225,7 +230,7 @@ pub fn write_spans(table: &[u32], words: &mut [u32]) -> Result<usize, Refusal>
     ensures { AnsweredWords table.now words.old result words.new }
 {
     let n = check_spans(table, words.len() / 3)?;
-    for (i, span) in Walk::of(table).take(n).enumerate() {
+    for (i, span) in Walk::of(table, n).enumerate() {
         put_span(words, 3 * i, span);
     }
     Ok(n)
@@ -236,7 +241,7 @@ pub fn karaoke_spans(table: &[u32], list: &mut [KaraokeSpan]) -> Result<usize, R
     ensures { Answered table.now list.old result list.new }
 {
     let n = check_spans(table, list.len())?;
-    for (i, span) in Walk::of(table).take(n).enumerate() {
+    for (i, span) in Walk::of(table, n).enumerate() {
         list[i] = span;
     }
     Ok(n)

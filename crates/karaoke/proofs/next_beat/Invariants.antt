@@ -1,5 +1,5 @@
 use mathlib.Core.Path.{◌≡◌}
-use Prim.Native.Nat.{◌-◌, ◌/◌}
+use Prim.Native.Nat.{◌-◌}
 use lib.ListN.{length}
 use Rattle.karaoke.specs.Inner.{beats_from}
 use Rattle.karaoke.proofs.next_beat.Given as goal
@@ -9,4 +9,4 @@ abbrev pub invariant-loop-at : goal.invariant-loop-at
 invariant-loop-at l = beats_from l.table l.at ≡ beats_from l.table l.from
 
 abbrev pub decreases-loop-at : goal.decreases-loop-at
-decreases-loop-at l = length l.table / 8 - l.at
+decreases-loop-at l = length l.table - l.at

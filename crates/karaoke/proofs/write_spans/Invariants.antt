@@ -1,14 +1,13 @@
 use mathlib.Core.Path.{◌≡◌}
-use Prim.Native.Nat.{◌+◌}
 use lib.ListN.{take, drop}
-use Rattle.std.specs.Iterator.Adapters.{enumerate_source, enumerate_count, take_source, take_count}
+use Rattle.std.specs.Iterator.Adapters.{enumerate_source, enumerate_count}
 use Rattle.karaoke.specs.Answer.{laid_spans}
-use Rattle.karaoke.specs.Inner.{all_spans, spans_left}
+use Rattle.karaoke.specs.Inner.{all_spans}
+use Rattle.karaoke.specs.Left.{spans_left}
 use Rattle.karaoke.proofs.write_spans.Given as goal
 
 abbrev pub invariant-loop-i : goal.invariant-loop-i
 invariant-loop-i l = record {
-  left : spans_left (take_source (enumerate_source l.i-iterator)) ≡ drop (enumerate_count l.i-iterator) (all_spans l.table);
-  few : take_count (enumerate_source l.i-iterator) + enumerate_count l.i-iterator ≡ l.n;
+  left : spans_left (enumerate_source l.i-iterator) ≡ drop (enumerate_count l.i-iterator) (all_spans l.table);
   words : l.words ≡ laid_spans l.initial.words (take (enumerate_count l.i-iterator) (all_spans l.table));
 }
