@@ -86,9 +86,10 @@ pub fn aligned(s: Line, n: u32) -> Line
     if n < 1 || n > 9 {
         return s;
     }
-    let mut line = s;
-    line.alignment = Some(n as u8);
-    line
+    Line {
+        alignment: Some(n as u8),
+        ..s
+    }
 }
 
 // Nor does a wrap style above 3.
@@ -99,7 +100,8 @@ pub fn wrapped(s: Line, n: u32) -> Line
     if n > 3 {
         return s;
     }
-    let mut line = s;
-    line.wrap_style = Some(n as u8);
-    line
+    Line {
+        wrap_style: Some(n as u8),
+        ..s
+    }
 }
