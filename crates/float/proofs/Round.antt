@@ -20,7 +20,7 @@ cut (fin t m e) s q h =
     (ap (λ n. Signed t n) size ∙ ap (λ b. Signed b q) h.0, ap (λ n. cond t 0 (min n 255)) size ∙ ap (λ b. cond b 0 (min q 255)) h.0)
 
 -- an f32 has 24 digits and an end
-few : (s : Bool) (m : ℕ) (e : ℤ) → T (fits binary32 (fin s m e)) → (m < 2 ^ 24) × (m * up e < 2 ^ 128 * down e)
+pub few : (s : Bool) (m : ℕ) (e : ℤ) → T (fits binary32 (fin s m e)) → (m < 2 ^ 24) × (m * up e < 2 ^ 128 * down e)
 few s zero e f = (lit< tt, omega (arith, zero-mul (up e), down_pos e))
 few s (suc m) e f = let p = parts s m e f in (p.0, p.2)
 
